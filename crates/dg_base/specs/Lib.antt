@@ -1,0 +1,3 @@
+pub mod MemState
+pub mod Outside
+pub mod Values
