@@ -1,0 +1,13 @@
+pub mod Orders
+pub mod Acceptance
+pub mod Weaker
+pub mod Blocks
+pub mod Each
+pub mod PairTests
+pub mod Sections
+pub mod Checks
+pub mod Edges
+pub mod Fitting
+pub mod Rows
+pub mod Threads
+pub mod WriteOrders
