@@ -1,0 +1,14 @@
+pub mod Marks
+pub mod Spelling
+pub mod Lexes
+pub mod Words
+pub mod Pieces
+pub mod Numbers
+pub mod Many
+pub mod Items
+pub mod Variables
+pub mod Whole
+pub mod Distinct
+pub mod Functions
+pub mod Meaning
+pub mod Texts
