@@ -1,0 +1,102 @@
+-- From a reply and what its print left to the outcome of a run.
+use Rattle.std.proofs.Common.{◌≡◌, ℕ, ◌<◌, List, Option, Some, None, Ok, Err, refl, sym, subst, arith, take}
+use Rattle.dg_base.specs.declared.outside.FileEntry.{FileEntry}
+use Rattle.dg_base.specs.declared.outside.Trouble.TheVariants.{Failed, Long}
+use Rattle.dg_base.specs.Outside.{Changes, Fetches, Prints, Told, Unchanged, contents}
+use Rattle.dg_top.specs.declared.reply.Reply.{Reply}
+use Rattle.dg_top.specs.Answers as answers
+use Rattle.dg_top.specs.Answers.{Allowed, Answer, Appended, BadWords, IsStatus, LongFile, NotYet, Outcome, Safe, Unsafe, answered, bad_words, file_named, long_file, no_memory, status_of, text_of, unfetched, unprinted, verdict}
+use Rattle.dg_top.specs.Replies.{Gives, Replies, Spells}
+
+pub told_map : {A : Type 0} (P Q : A → Type 0) (o : Option A) → ((x : A) → P x → Q x) → Told P o → Told Q o
+told_map P Q None f t = tt
+told_map P Q (Some x) f t = f x t
+
+pub told_all : {A : Type 0} (P : A → Type 0) (o : Option A) → ((x : A) → P x) → Told P o
+told_all P None f = tt
+told_all P (Some x) f = f x
+
+changes_map : {A : Type 0} (R S : A → A → Type 0) (before now : Option A) → ((a b : A) → R a b → S a b) → Changes R before now → Changes S before now
+changes_map R S None now f c = tt
+changes_map R S (Some a) None f c = c
+changes_map R S (Some a) (Some b) f c = f a b c
+
+pub unchanged : {A : Type 0} (before now : Option A) → now ≡ before → Unchanged before now
+unchanged {A} before now e = subst (λ o. Unchanged before o) (sym e) (same before)
+  where
+    same : (o : Option A) → Unchanged o o
+    same None = tt
+    same (Some a) = refl
+
+-- ---- the statuses of answers
+
+pub status_small : (a : Answer) → status_of a < 5
+status_small Safe = omega arith
+status_small (Unsafe f c h at) = omega arith
+status_small BadWords = omega arith
+status_small NotYet = omega arith
+status_small (LongFile name) = omega arith
+
+pub status_known : (a : Answer) → IsStatus (status_of a)
+status_known Safe = refl
+status_known (Unsafe f c h at) = refl
+status_known BadWords = refl
+status_known NotYet = refl
+status_known (LongFile name) = refl
+
+-- the status of a reply is that of its answer
+pub reply_small : (words : List (List ℕ)) (files : Option (List FileEntry)) (r : Reply) → Replies words files r → r.status < 5
+reply_small words files r p = let small : status_of p.answer < 5 = status_small p.answer in omega (arith, p.spelled.status)
+
+pub reply_known : (words : List (List ℕ)) (files : Option (List FileEntry)) (r : Reply) → Replies words files r → IsStatus r.status
+reply_known words files r p = subst IsStatus (sym p.spelled.status) (status_known p.answer)
+
+-- ---- replies
+
+pub words_reply : (words : List (List ℕ)) (files : Option (List FileEntry)) (r : Reply) → file_named words ≡ None → Spells BadWords r → Replies words files r
+words_reply words files r none spelled = record {
+  answer = BadWords;
+  allowed = told_all (λ fs. Allowed words fs BadWords) files (λ fs. bad_words none);
+  spelled = spelled;
+}
+
+pub long_reply : (words : List (List ℕ)) (files : Option (List FileEntry)) (name into : List ℕ) (r : Reply) → file_named words ≡ Some name → Told (λ fs. Fetches (contents fs name) into (Err Long)) files → Spells (LongFile name) r → Replies words files r
+long_reply words files name into r named told spelled = record {
+  answer = LongFile name;
+  allowed = told_map (λ fs. Fetches (contents fs name) into (Err Long)) (λ fs. Allowed words fs (LongFile name)) files (λ fs long. long_file name named long) told;
+  spelled = spelled;
+}
+
+pub verdict_reply : (words : List (List ℕ)) (files : Option (List FileEntry)) (name into : List ℕ) (r : Reply) → file_named words ≡ Some name → Told (λ fs. Fetches (contents fs name) into (Ok tt)) files → Gives into r → Replies words files r
+verdict_reply words files name into r named told gives = record {
+  answer = gives.answer;
+  allowed = told_map (λ fs. Fetches (contents fs name) into (Ok tt)) (λ fs. Allowed words fs gives.answer) files
+      (λ fs fetched. verdict name gives.answer named fetched.1 (subst (λ text. answers.IsVerdict text gives.answer) fetched.0 gives.allowed)) told;
+  spelled = gives.spelled;
+}
+
+-- ---- outcomes
+
+pub printed_whole : (words : List (List ℕ)) (files : Option (List FileEntry)) (before middle now : Option (List ℕ)) (r : Reply) → middle ≡ before → Replies words files r → Changes (Prints r.text.items (Ok tt)) middle now → Told (λ fs. Outcome words fs before now r.status) files
+printed_whole words files before middle now r same p change =
+    let made : Changes (Appended (text_of p.answer)) before now = subst (λ text. Changes (Appended text) before now) p.spelled.text (subst (λ o. Changes (Prints r.text.items (Ok tt)) o now) same change) in
+    subst (λ s. Told (λ fs. Outcome words fs before now s) files) (sym p.spelled.status) (told_map (λ fs. Allowed words fs p.answer) (λ fs. Outcome words fs before now (status_of p.answer)) files (λ fs allowed. answered p.answer allowed made) p.allowed)
+
+part_of : (bytes : List ℕ) (before now : Option (List ℕ)) → Changes (Prints bytes (Err Failed)) before now → (n : ℕ) × Changes (Appended (take n bytes)) before now
+part_of bytes None now c = (0, tt)
+part_of bytes (Some a) None c = absurd c
+part_of bytes (Some a) (Some b) c = c
+
+pub printed_part : (words : List (List ℕ)) (files : Option (List FileEntry)) (before middle now : Option (List ℕ)) (r : Reply) → middle ≡ before → Replies words files r → Changes (Prints r.text.items (Err Failed)) middle now → Told (λ fs. Outcome words fs before now 6) files
+printed_part words files before middle now r same p change =
+    let part = part_of (text_of p.answer) before now (subst (λ text. Changes (Prints text (Err Failed)) before now) p.spelled.text (subst (λ o. Changes (Prints r.text.items (Err Failed)) o now) same change)) in
+    told_map (λ fs. Allowed words fs p.answer) (λ fs. Outcome words fs before now 6) files (λ fs allowed. unprinted p.answer part.0 allowed part.1) p.allowed
+
+pub unprinted_memory : (before middle now : Option (List ℕ)) → middle ≡ before → Unchanged middle now → Unchanged before now
+unprinted_memory before middle now same change = subst (λ o. Unchanged o now) same change
+
+pub memory_outcome : (words : List (List ℕ)) (files : Option (List FileEntry)) (before now : Option (List ℕ)) → Unchanged before now → Told (λ fs. Outcome words fs before now 7) files
+memory_outcome words files before now u = told_all (λ fs. Outcome words fs before now 7) files (λ fs. no_memory u)
+
+pub unfetched_outcome : (words : List (List ℕ)) (files : Option (List FileEntry)) (before now : Option (List ℕ)) → now ≡ before → Told (λ fs. Outcome words fs before now 5) files
+unfetched_outcome words files before now e = told_all (λ fs. Outcome words fs before now 5) files (λ fs. unfetched (unchanged before now e))

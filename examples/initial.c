@@ -1,0 +1,4 @@
+int x;
+int main() {
+  assert(x == 1);
+return 0; }
