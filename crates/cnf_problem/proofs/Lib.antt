@@ -1,0 +1,11 @@
+pub mod Members
+pub mod LiteralLaws
+pub mod Assignments
+pub mod GateLaws
+pub mod Folding
+pub mod AndGate
+pub mod XorGate
+pub mod MuxGate
+pub mod ChainLaws
+pub mod LemmaLaws
+pub mod FlatLaws
