@@ -1,0 +1,15 @@
+pub mod Targets
+pub mod Depths
+pub mod Spelled
+pub mod Levels
+pub mod Holding
+pub mod Goods
+pub mod Starts
+pub mod Steps
+pub mod Taken
+pub mod Whole
+pub mod Longest
+pub mod OneRun
+pub mod Stacks
+pub mod Answering
+pub mod Numbers
