@@ -1,1 +1,10 @@
+pub mod Bytes
+pub mod Pieces
+pub mod Seen
+pub mod Macros
+pub mod Dropping
+pub mod Numbers
 pub mod Tokens
+pub mod Sieving
+pub mod Tables
+pub mod Searching

@@ -1,0 +1,15 @@
+pub mod Marks
+pub mod Splitting
+pub mod Values
+pub mod Keeping
+pub mod Closing
+pub mod Sifting
+pub mod Feeding
+pub mod Uses
+pub mod Defining
+pub mod Hunting
+pub mod Seeking
+pub mod Passing
+pub mod Sieved
+pub mod Limits
+pub mod Answering

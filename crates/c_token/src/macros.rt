@@ -1,0 +1,261 @@
+// Macros: from the pieces of a text to its tokens and the uses of its macros.
+ghost use Rattle.std.specs.Prelude.{◌≡◌, ◌≤◌, ◌++◌, IsTrue, List, [], ◌∷◌, map, length, IfOk, OnOk};
+ghost use Rattle.std.specs.HashMap.{get};
+ghost use Rattle.c_token.specs.declared.Token.{Token};
+ghost use Rattle.c_token.specs.Bytes.{capped};
+ghost use Rattle.c_token.specs.Seen.{segment, token};
+ghost use Rattle.c_token.specs.Macros.{Reading, bodies_of, all_at, nothing_read, replaced, add, begin, define, read_piece, read};
+ghost use Rattle.c_token.specs.Tables.{all_tokens, use_tokens, is_below, AllBelow, IsMacro, IsTable, macro_count, same_name, Reads, IsReader};
+
+use crate::TokenKind;
+use crate::pieces::Piece;
+use crate::segments::Part;
+use crate::words::Word;
+use dg_base::{List, OutOfMemory, Place};
+use std::alloc::Global;
+use std::collections::HashMap;
+use std::mem;
+
+/// The most tokens that a macro may have.
+pub const MAX_MACRO: u32 = 1024;
+
+/// A count as refusals give it.
+pub fn capped(count: usize) -> u32
+    ensures { result ≡ capped count }
+{
+    count.min(u32::MAX as usize) as u32
+}
+
+/// A token, or what the macro with this number gives at this place.
+#[derive(Debug, Clone, Copy, Drop)]
+pub enum Use<'a> {
+    Plain(Word<'a>),
+    Macro(usize, Place),
+}
+
+/// A macro: its tokens, or how many there are and what they come from.
+#[derive(Debug, Drop)]
+pub enum Macro<'a> {
+    Short(List<Word<'a>>),
+    Long(u32, List<Use<'a>>),
+}
+
+impl<'a> Macro<'a> {
+    /// How many tokens the macro has, up to 4294967295.
+    pub fn count(&self) -> u32
+        ensures { result ≡ macro_count self.now }
+    {
+        match self {
+            Macro::Short(words) => capped(words.len()),
+            Macro::Long(count, _) => *count,
+        }
+    }
+}
+
+fn use_count(macros: &[Macro<'_>], one: &Use<'_>) -> u32
+    requires { IsTrue (is_below (length macros.now) one.now) }
+    ensures { (bodies : List (List Token)) → IsTable macros.now bodies → result ≡ capped (length (use_tokens bodies one.now)) }
+{
+    match one {
+        Use::Plain(_) => 1,
+        Use::Macro(number, _) => macros[*number].count(),
+    }
+}
+
+fn count_of(macros: &[Macro<'_>], uses: &[Use<'_>]) -> u32
+    requires { AllBelow (length macros.now) uses.now }
+    ensures { (bodies : List (List Token)) → IsTable macros.now bodies → result ≡ capped (length (all_tokens bodies uses.now)) }
+{
+    let mut count: u32 = 0;
+    for one in uses {
+        count = count.saturating_add(use_count(macros, one));
+    }
+    count
+}
+
+/// Puts these tokens last, all at one place.
+fn push_all<'a>(
+    all: &mut List<Word<'a>>,
+    words: &[Word<'a>],
+    place: Place,
+) -> Result<(), OutOfMemory>
+    ensures { OnOk result (map token all.new ≡ map token all.old ++ all_at place (map token words.now)) }
+{
+    for word in words {
+        all.push(word.at(place))?;
+    }
+    Ok(())
+}
+
+/// Puts the tokens of a use last, where it is not of a long macro.
+fn push_words<'a>(
+    all: &mut List<Word<'a>>,
+    macros: &[Macro<'a>],
+    one: &Use<'a>,
+) -> Result<(), OutOfMemory>
+    requires { IsTrue (is_below (length macros.now) one.now) }
+    ensures { (bodies : List (List Token)) → IsTable macros.now bodies → length (use_tokens bodies one.now) ≤ 1024 → OnOk result (map token all.new ≡ map token all.old ++ use_tokens bodies one.now) }
+{
+    match one {
+        Use::Plain(word) => all.push(*word)?,
+        Use::Macro(number, place) => {
+            if let Macro::Short(words) = &macros[*number] {
+                push_all(all, words.as_slice(), *place)?;
+            }
+        }
+    }
+    Ok(())
+}
+
+/// All the tokens of these uses, of which none is of a long macro.
+fn words_of<'a>(
+    alloc: Global,
+    macros: &[Macro<'a>],
+    uses: &[Use<'a>],
+) -> Result<List<Word<'a>>, OutOfMemory>
+    requires { AllBelow (length macros.now) uses.now }
+    ensures { (bodies : List (List Token)) → IsTable macros.now bodies → length (all_tokens bodies uses.now) ≤ 1024 → IfOk result (λ words. map token words ≡ all_tokens bodies uses.now) }
+{
+    let mut all = List::new(alloc);
+    for one in uses {
+        push_words(&mut all, macros, one)?;
+    }
+    Ok(all)
+}
+
+fn macro_from<'a>(
+    alloc: Global,
+    macros: &[Macro<'a>],
+    uses: List<Use<'a>>,
+) -> Result<Macro<'a>, OutOfMemory>
+    requires { AllBelow (length macros.now) uses }
+    ensures { (bodies : List (List Token)) → IsTable macros.now bodies → IfOk result (λ m. IsMacro bodies (length macros.now) m (all_tokens bodies uses.entry)) }
+{
+    let count = count_of(macros, uses.as_slice());
+    if count > MAX_MACRO {
+        return Ok(Macro::Long(count, uses));
+    }
+    let words = words_of(alloc, macros, uses.as_slice())?;
+    Ok(Macro::Short(words))
+}
+
+/// What is read of a text.
+#[derive(Drop)]
+pub struct Reader<'a> {
+    alloc: Global,
+    /// For each macro's name the number of the newest macro.
+    numbers: HashMap<&'a [u8], usize>,
+    /// The macros in the order of their definitions.
+    pub macros: List<Macro<'a>>,
+    /// The name of the macro whose line is being read.
+    pending: Option<&'a [u8]>,
+    /// What that line has so far.
+    body: List<Use<'a>>,
+    /// What stands outside directives.
+    pub uses: List<Use<'a>>,
+}
+
+impl<'a> Reader<'a> {
+    pub fn new(alloc: Global) -> Reader<'a>
+        ensures { Reads result nothing_read }
+    {
+        Reader {
+            alloc,
+            numbers: HashMap::new(alloc),
+            macros: List::new(alloc),
+            pending: None,
+            body: List::new(alloc),
+            uses: List::new(alloc),
+        }
+    }
+
+    fn number(&self, name: &[u8]) -> Option<usize>
+        ensures { result ≡ get same_name self.now.numbers name.entry }
+    {
+        self.numbers.get(name).copied()
+    }
+
+    /// The use that a token stands for.
+    fn use_of(&self, word: Word<'a>) -> Use<'a>
+        ensures { (r : Reading) → Reads self.now r → (all_tokens (bodies_of r.macros) (result ∷ []) ≡ replaced r.macros (token word.entry)) × IsTrue (is_below (length self.now.macros) result) }
+    {
+        if !word.is_name() {
+            return Use::Plain(word);
+        }
+        match self.number(word.text) {
+            Some(number) => Use::Macro(number, word.place),
+            None => Use::Plain(word),
+        }
+    }
+
+    fn add(&mut self, word: Word<'a>) -> Result<(), OutOfMemory>
+        ensures { (r : Reading) → Reads self.old r → OnOk result (Reads self.new (add r (token word.entry))) }
+    {
+        let one = self.use_of(word);
+        if self.pending.is_some() {
+            self.body.push(one)?;
+        } else {
+            self.uses.push(one)?;
+        }
+        Ok(())
+    }
+
+    /// Defines the macro whose line ends.
+    fn define(&mut self) -> Result<(), OutOfMemory>
+        requires { IsReader self.old }
+        ensures { (r : Reading) → Reads self.old r → OnOk result (Reads self.new (define r.pending r)) }
+    {
+        let Some(name) = self.pending else {
+            return Ok(());
+        };
+        let body = mem::replace(&mut self.body, List::new(self.alloc));
+        let number = self.macros.len();
+        let made = macro_from(self.alloc, self.macros.as_slice(), body)?;
+        self.macros.push(made)?;
+        self.numbers.insert(name, number)?;
+        self.pending = None;
+        Ok(())
+    }
+
+    /// Begins a macro's line.
+    fn begin(&mut self, name: &'a [u8])
+        ensures { (r : Reading) → Reads self.old r → Reads self.new (begin name.now r) }
+    {
+        let _unused = mem::replace(&mut self.body, List::new(self.alloc));
+        self.pending = Some(name);
+    }
+
+    fn take(&mut self, part: Part<'a>) -> Result<(), OutOfMemory>
+        requires { IsReader self.old }
+        ensures { (r : Reading) → Reads self.old r → OnOk result (Reads self.new (read_piece part.entry.piece part.entry.place part.entry.text.now r)) }
+    {
+        let place = part.place;
+        let text = part.text;
+        match part.piece {
+            Piece::Word(kind) => self.add(Word { kind, place, text }),
+            Piece::Refused => self.add(Word {
+                kind: TokenKind::Mark,
+                place,
+                text,
+            }),
+            Piece::Define(len) => {
+                self.begin(&text[text.len().saturating_sub(len)..]);
+                Ok(())
+            }
+            Piece::LineFeed => self.define(),
+            Piece::Gap | Piece::Comment | Piece::Include => Ok(()),
+        }
+    }
+}
+
+/// Reads the pieces of a text.
+pub fn read<'a>(alloc: Global, parts: &[Part<'a>]) -> Result<Reader<'a>, OutOfMemory>
+    ensures { IfOk result (λ reader. Reads reader (read nothing_read (map segment parts.now))) }
+{
+    let mut reader = Reader::new(alloc);
+    for part in parts {
+        reader.take(*part)?;
+    }
+    reader.define()?;
+    Ok(reader)
+}
