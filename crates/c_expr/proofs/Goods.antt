@@ -12,7 +12,8 @@ use Rattle.c_expr.specs.declared.frame.Frame.{Frame}
 use Rattle.c_expr.specs.declared.frame.Frame.TheVariants.{InBracket, InTarget, InIndex, InCall, AfterAddress, AfterCast, AfterSign, AfterStep, AfterOperator, AfterTest, AfterChoice, AfterAssign, AfterComma}
 use Rattle.c_expr.specs.Words.{mark, word, IsName}
 use Rattle.c_expr.specs.Expressions.{is_lvalue, IsType, AreTexts, Reads}
-use Rattle.c_expr.specs.Machine.{wanted_by, wants, Held, State, Want, Named, Have, Texts, Typed, Next, Go, Stop, if_so, pushed, has_room, over, grown}
+use Rattle.c_expr.specs.Machine.{wanted_by, wants, Held, State, Want, Named, Have, Texts, Typed, Next, Go, Stop, if_so, pushed, has_room, over}
+use Rattle.c_expr.specs.TypeWords.{grown}
 use Rattle.c_expr.proofs.Spelled.{Spelled}
 use Rattle.c_expr.proofs.Levels.{tier_small}
 use Rattle.c_expr.proofs.Holding.{Holds, in_bracket, in_target, in_index, in_call, after_address, after_test, room, Passed, Closed, SuitsTarget}

@@ -7,7 +7,7 @@ use Rattle.c_tree.specs.declared.expr.Expr.{Expr}
 use Rattle.c_tree.specs.Level.{greatest, expr_level}
 use Rattle.c_expr.specs.Expressions.{tier, is_lvalue, Reads, ReadsArgument, ReadsArguments, name, number, bracket, index, call, cast, prefix, step_before, step_after, binary, choose, assign, comma, value, address, text, no_argument, one_argument, more_arguments}
 use Rattle.c_expr.specs.Expressions as g
-use Rattle.c_token.specs.Tokens.{is_unsigned}
+use Rattle.c_token.specs.Numbers.{is_unsigned}
 use Rattle.c_expr.proofs.Depths as d
 
 -- a text of a tighter level is one of a looser level

@@ -10,6 +10,8 @@ pub mod Taken
 pub mod Whole
 pub mod Longest
 pub mod OneRun
+pub mod Closers
+pub mod Firsts
+pub mod TypeWords
 pub mod Stacks
 pub mod Answering
-pub mod Numbers

@@ -13,7 +13,7 @@ pub record IsFront (a b rest : List Token) : Type 0 where
   pub follows : rest ≡ token ∷ after
 
 -- two fronts of one list are the same, or one is a front of the other
-fronts : (a b s t : List Token) → a ++ s ≡ b ++ t → ((a ≡ b) × (s ≡ t)) ⊎ (IsFront a b s ⊎ IsFront b a t)
+pub fronts : (a b s t : List Token) → a ++ s ≡ b ++ t → ((a ≡ b) × (s ≡ t)) ⊎ (IsFront a b s ⊎ IsFront b a t)
 fronts [] [] s t is = inl (refl, is)
 fronts [] (u ∷ b) s t is = inr (inl (record { token = u; more = b; after = b ++ t; longer = refl; follows = is }))
 fronts (u ∷ a) [] s t is = inr (inr (record { token = u; more = a; after = a ++ s; longer = refl; follows = sym is }))

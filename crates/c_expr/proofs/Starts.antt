@@ -20,11 +20,12 @@ use Rattle.c_expr.specs.declared.word.Word.{Word}
 use Rattle.c_expr.specs.declared.word.Word.TheVariants as w
 use Rattle.c_expr.specs.declared.frame.Frame.{Frame}
 use Rattle.c_expr.specs.declared.frame.Frame.TheVariants.{InBracket, InTarget, InIndex, InCall, AfterAddress, AfterCast, AfterSign, AfterStep, AfterOperator, AfterTest, AfterChoice, AfterAssign, AfterComma}
-use Rattle.c_token.specs.Tokens.{is_unsigned}
+use Rattle.c_token.specs.Numbers.{is_unsigned}
 use Rattle.c_expr.specs.Words.{mark, word, prefix_text, step_text, binary_text, type_text}
 use Rattle.c_expr.specs.Expressions.{value_in, IsType, int, signed, signed_int, unsigned, unsigned_int, void, pointer, thread, mutex, Reads, number, call, no_argument}
 use Rattle.c_expr.specs.Machine as machine
-use Rattle.c_expr.specs.Machine.{wants, State, Want, Named, Have, Texts, Typed, Next, Go, Stop, if_so, pushed, calls, no_arguments, first_word, may_grow, typed, sign_of, operator_first, bracket_frame, start, is_int, is_star, grown}
+use Rattle.c_expr.specs.Machine.{wants, State, Want, Named, Have, Texts, Typed, Next, Go, Stop, if_so, pushed, calls, no_arguments, typed, sign_of, operator_first, bracket_frame, start}
+use Rattle.c_expr.specs.TypeWords.{first_word, may_grow, is_int, is_star}
 use Rattle.c_expr.proofs.Spelled.{Spelled}
 use Rattle.c_expr.proofs.Holding.{Holds, in_bracket, in_target, after_address, after_sign, after_step, Passed, none_passed, one_passed, suits}
 use Rattle.c_expr.proofs.Goods.{CanGrow, good_named, good_have, good_texts, good_typed, GoodNext, when, at, as_token, pushed_good, sunk, behind_bracket, behind_call, seam}
@@ -88,7 +89,7 @@ empty_call t (AfterAssign p o y ∷ s) is h = tt
 empty_call t (AfterComma p y ∷ s) is h = tt
 
 -- the first word of a type
-first_type : (k : TypeName) (p : Place) → IsType (word (type_text k) p ∷ []) (first_word k)
+pub first_type : (k : TypeName) (p : Place) → IsType (word (type_text k) p ∷ []) (first_word k)
 first_type tn.Int p = int p
 first_type tn.Signed p = signed p
 first_type tn.Unsigned p = unsigned p
@@ -124,7 +125,7 @@ void_grows p t v j is grows =
     let b = some_if (is_star v) type.VoidPointer j grows in
     subst (λ k. IsType (word (codes "void") p ∷ t ∷ []) k) b.1 (subst (λ u. IsType (word (codes "void") p ∷ u ∷ []) type.VoidPointer) (star_token t v b.0 is) (pointer p t.place))
 
-first_grows : (k : TypeName) (p : Place) → may_grow k ≡ true → CanGrow (word (type_text k) p ∷ []) (first_word k)
+pub first_grows : (k : TypeName) (p : Place) → may_grow k ≡ true → CanGrow (word (type_text k) p ∷ []) (first_word k)
 first_grows tn.Signed p may = signed_grows p
 first_grows tn.Unsigned p may = unsigned_grows p
 first_grows tn.Void p may = void_grows p

@@ -19,7 +19,8 @@ use Rattle.c_expr.specs.declared.frame.Frame.TheVariants.{InBracket, InTarget, I
 use Rattle.c_expr.specs.Words.{mark, word, step_text, binary_text, assignment_text, IsName, word_of}
 use Rattle.c_expr.specs.Expressions.{tier, may_assign, is_lvalue, AreTexts, IsType, Reads, ReadsArgument, name, bracket, index, call, step_after, value, address, text}
 use Rattle.c_expr.specs.Machine as machine
-use Rattle.c_expr.specs.Machine.{wants, Held, close, State, Want, Named, Have, Texts, Typed, Next, Go, Stop, if_so, pushed, has_room, over, right, right_square, colon, step_behind, extend, named, grown, grows, behind_texts, behind_type, step}
+use Rattle.c_expr.specs.Machine.{wants, Held, close, State, Want, Named, Have, Texts, Typed, Next, Go, Stop, if_so, pushed, has_room, over, right, right_square, colon, step_behind, extend, named, grows, behind_texts, behind_type, step}
+use Rattle.c_expr.specs.TypeWords.{grown}
 use Rattle.c_expr.proofs.Targets.{lvalue-name, lvalue-bracket, lvalue-index, lvalue-step_after}
 use Rattle.c_expr.proofs.Spelled.{Spelled, spelled, assigns}
 use Rattle.c_expr.proofs.Levels.{looser, fits, tier_small}

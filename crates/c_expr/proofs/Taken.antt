@@ -34,7 +34,7 @@ opens w.Left = true
 opens w.LeftSquare = true
 opens _ = false
 
-named_acts : (f n : ℕ) (v : Word) (p q : Place) (c : List ℕ) (s : List Frame) → opens v ≡ false → named f n v p q c s ≡ extend f n v p (e.Name q c) s
+pub named_acts : (f n : ℕ) (v : Word) (p q : Place) (c : List ℕ) (s : List Frame) → opens v ≡ false → named f n v p q c s ≡ extend f n v p (e.Name q c) s
 named_acts f n w.Left p q c s is = let bad : true ≡ false = is in cc
 named_acts f n w.LeftSquare p q c s is = let bad : true ≡ false = is in cc
 named_acts f n w.Name p q c s is = refl

@@ -7,7 +7,7 @@ use Rattle.c_token.specs.declared.Token.{Token}
 use Rattle.c_token.specs.declared.TokenKind.TheVariants as kind
 use Rattle.c_tree.specs.declared.expr.Expr.{Expr}
 use Rattle.c_tree.specs.declared.expr.Expr.TheVariants as e
-use Rattle.c_token.specs.Tokens.{is_unsigned}
+use Rattle.c_token.specs.Numbers.{is_unsigned}
 use Rattle.c_expr.specs.declared.word.Word.TheVariants as w
 use Rattle.c_expr.specs.declared.frame.Frame.{Frame}
 use Rattle.c_expr.specs.declared.frame.Frame.TheVariants.{InBracket, InTarget, InIndex, InCall, AfterAddress, AfterCast, AfterSign, AfterStep, AfterOperator, AfterTest, AfterChoice, AfterAssign, AfterComma}

@@ -3,7 +3,6 @@ use Rattle.std.specs.Prelude.{Option, Some, None, ℕ, suc, ◌+◌, Bool, true,
 use Rattle.dg_base.specs.declared.Place.{Place}
 use Rattle.c_token.specs.declared.Token.{Token}
 use Rattle.c_tree.specs.declared.expr.TypeWord.{TypeWord}
-use Rattle.c_tree.specs.declared.expr.TypeWord.TheVariants as type
 use Rattle.c_tree.specs.declared.expr.UnaryOp.{UnaryOp}
 use Rattle.c_tree.specs.declared.expr.UnaryOp.TheVariants as unary
 use Rattle.c_tree.specs.declared.expr.StepOp.{StepOp}
@@ -14,14 +13,14 @@ use Rattle.c_tree.specs.declared.expr.Expr.{Expr}
 use Rattle.c_tree.specs.declared.expr.Expr.TheVariants as e
 use Rattle.c_tree.specs.Level.{expr_level}
 use Rattle.c_expr.specs.declared.word.TypeName.{TypeName}
-use Rattle.c_expr.specs.declared.word.TypeName.TheVariants as name
 use Rattle.c_expr.specs.declared.word.Word.{Word}
 use Rattle.c_expr.specs.declared.word.Word.TheVariants as w
 use Rattle.c_expr.specs.declared.frame.Frame.{Frame}
 use Rattle.c_expr.specs.declared.frame.Frame.TheVariants.{InBracket, InTarget, InIndex, InCall, AfterAddress, AfterCast, AfterSign, AfterStep, AfterOperator, AfterTest, AfterChoice, AfterAssign, AfterComma}
 use Rattle.c_expr.specs.Words.{word_of}
+use Rattle.c_expr.specs.TypeWords.{first_word, may_grow, grown}
 use Rattle.c_expr.specs.Expressions.{tier, is_lvalue, value_in}
-use Rattle.c_token.specs.Tokens.{is_unsigned}
+use Rattle.c_token.specs.Numbers.{is_unsigned}
 
 -- the node with its last part
 abbrev pub filled : Frame → Expr → Expr
@@ -146,23 +145,6 @@ abbrev pub no_arguments : List Frame → Next
 no_arguments (InCall p c [] ∷ s) = Go (Have (e.Call p c []) s)
 no_arguments _ = Stop
 
--- a first word of a type, and whether one more may belong to it
-abbrev pub first_word : TypeName → TypeWord
-first_word name.Int = type.Int
-first_word name.Signed = type.Int
-first_word name.Unsigned = type.Uint
-first_word name.Void = type.Void
-first_word name.Thread = type.Thread
-first_word name.Mutex = type.Mutex
-
-abbrev pub may_grow : TypeName → Bool
-may_grow name.Int = false
-may_grow name.Signed = true
-may_grow name.Unsigned = true
-may_grow name.Void = true
-may_grow name.Thread = false
-may_grow name.Mutex = false
-
 -- a word of a type behind the `(` of a bracket
 abbrev pub typed : TypeName → List Frame → Next
 typed t (InBracket p ∷ s) = Go (Typed p (first_word t) (may_grow t) s)
@@ -282,21 +264,6 @@ behind_texts w.Text q s = Go (Texts q s)
 behind_texts w.Comma q s = next_argument (e.Text q) s
 behind_texts w.Right q s = last_argument (e.Text q) s
 behind_texts _ q s = Stop
-
-abbrev pub is_int : Word → Bool
-is_int (w.Type name.Int) = true
-is_int _ = false
-
-abbrev pub is_star : Word → Bool
-is_star (w.Binary binary.Times) = true
-is_star _ = false
-
--- the type that one word more makes of one
-abbrev pub grown : Word → TypeWord → Option TypeWord
-grown v type.Int = if is_int v then Some type.Int else None
-grown v type.Uint = if is_int v then Some type.Uint else None
-grown v type.Void = if is_star v then Some type.VoidPointer else None
-grown v _ = None
 
 abbrev pub grows : Place → List Frame → Option TypeWord → Next
 grows p s None = Stop

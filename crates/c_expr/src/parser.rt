@@ -14,6 +14,7 @@ use crate::stack::{
 use crate::tops::{
     Call, calls, pop_address, pop_bracket, pop_call, pop_index, pop_target, pop_test,
 };
+use crate::type_words::{first_word, grown, may_grow};
 use crate::word::{TypeName, Word, word_of};
 use c_token::{Token, Tokens};
 use c_tree::{AssignOp, BinaryOp, Expr, StepOp, TypeWord, UnaryOp};
@@ -96,24 +97,6 @@ fn typed(name: TypeName, stack: &mut List<Frame>) -> Result<Stepped, AllocError>
         None => stop(),
         Some(place) => Ok(Stepped::Go(Reading::Type(place, first_word(name), may_grow(name)))),
     }
-}
-
-fn first_word(name: TypeName) -> TypeWord
-    ensures { result ≡ machine.first_word name }
-{
-    match name {
-        TypeName::Int | TypeName::Signed => TypeWord::Int,
-        TypeName::Unsigned => TypeWord::Uint,
-        TypeName::Void => TypeWord::Void,
-        TypeName::Thread => TypeWord::Thread,
-        TypeName::Mutex => TypeWord::Mutex,
-    }
-}
-
-fn may_grow(name: TypeName) -> bool
-    ensures { result ≡ machine.may_grow name }
-{
-    matches!(name, TypeName::Signed | TypeName::Unsigned | TypeName::Void)
 }
 
 // A name where an operand is to come.
@@ -481,18 +464,6 @@ fn behind_texts(word: Word, place: Place, stack: &mut List<Frame>) -> Result<Ste
         Word::Comma => next_argument(Expr::Text { place }, stack),
         Word::Right => last_argument(Expr::Text { place }, stack),
         _ => stop(),
-    }
-}
-
-// The type that one word more makes of one.
-fn grown(word: Word, kind: TypeWord) -> Option<TypeWord>
-    ensures { result ≡ machine.grown word kind }
-{
-    match (word, kind) {
-        (Word::Type(TypeName::Int), TypeWord::Int) => Some(TypeWord::Int),
-        (Word::Type(TypeName::Int), TypeWord::Uint) => Some(TypeWord::Uint),
-        (Word::Binary(BinaryOp::Times), TypeWord::Void) => Some(TypeWord::VoidPointer),
-        _ => None,
     }
 }
 
