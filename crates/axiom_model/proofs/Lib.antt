@@ -1,4 +1,8 @@
 pub mod Orders
+pub mod Forwards
+pub mod Places
+pub mod Turning
+pub mod Walking
 pub mod Acceptance
 pub mod Weaker
 pub mod Blocks

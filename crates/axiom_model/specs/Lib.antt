@@ -5,3 +5,5 @@ pub mod Models
 pub mod Orders
 pub mod Failing
 pub mod Outcomes
+pub mod Sorting
+pub mod Walking

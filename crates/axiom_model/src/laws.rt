@@ -1,6 +1,6 @@
 //! What holds of all executions.
 
-ghost use Rattle.std.specs.Prelude.{◌≡◌, ℕ, true, None};
+ghost use Rattle.std.specs.Prelude.{◌≡◌, ℕ, List, All, true, None};
 ghost use Rattle.axiom_model.specs.declared.MemoryModel.{MemoryModel};
 ghost use Rattle.axiom_model.specs.declared.MemoryModel.TheVariants.{Sc, Tso, Pso};
 ghost use Rattle.axiom_model.specs.declared.Action.{Action};
@@ -9,6 +9,7 @@ ghost use Rattle.axiom_model.specs.Cycles.{NoCycle};
 ghost use Rattle.axiom_model.specs.Execution.{Execution, cell_of, SameBlock};
 ghost use Rattle.axiom_model.specs.Models.{keeps, LocalEdge, GlobalEdge, Leaves, Consistent};
 ghost use Rattle.axiom_model.specs.Orders.{Forward, BetweenBlocks, OneInEachBlock, Accept};
+ghost use Rattle.axiom_model.specs.Sorting.{HasEdge, NoRepeats, GoesForward};
 
 /// An order in which every edge goes forward excludes every cycle: of events for the local and for
 /// the global condition, and of blocks.
@@ -18,6 +19,13 @@ pub fn forward_orders_exclude_cycles()
         → Forward rank (GlobalEdge m x) → NoCycle (GlobalEdge m x) }
     ensures blocks { (m : MemoryModel) (x : Execution) (rank : Event → ℕ)
         → OneInEachBlock x rank → Forward rank (BetweenBlocks m x) → NoCycle (Leaves m x) }
+{}
+
+/// A list of nodes, none twice, in which every edge of a graph goes forward excludes every cycle of the
+/// graph.
+pub fn forward_lists_exclude_cycles()
+    ensures { (edges : List (ℕ × ℕ)) (order : List ℕ)
+        → NoRepeats order → All (GoesForward order) edges → NoCycle (HasEdge edges) }
 {}
 
 /// An execution that such orders accept is consistent.

@@ -16,22 +16,30 @@
 //! outcomes that are known of each model (`specs/Outcomes`) are proved as well, as a test of the
 //! definitions.
 //!
+//! [`acyclic`] orders the nodes of a graph so that every edge goes forward, or finds a cycle; what
+//! both are of a list of edges between numbers stands in `specs/Sorting`. It comes with the law that
+//! such an order excludes cycles.
+//!
 //! The form of the models is that of J. Alglave, L. Maranget, M. Tautschnig, "Herding cats" (ACM
 //! TOPLAS, 2014), with the preserved program order and the global reads-from of J. Alglave, "A formal
 //! hierarchy of weak memory models" (Formal Methods in System Design, 2012). TSO and PSO are those of
 //! the SPARC Architecture Manual, versions 8 and 9. Sections as blocks are this project's own.
 #![tactic(auto)]
 
+mod graph;
 mod laws;
 mod outcomes;
+mod sorting;
+mod walk;
 
 ghost use Rattle.std.specs.Prelude.{◌≡◌};
 ghost use Rattle.axiom_model.specs.Models.{keeps};
 
 use dg_base::List;
+pub use graph::acyclic;
 pub use laws::{
-    accepted_is_consistent, blocks_are_an_equivalence, forward_orders_exclude_cycles,
-    full_fences_are_kept, weaker_models_allow_more,
+    accepted_is_consistent, blocks_are_an_equivalence, forward_lists_exclude_cycles,
+    forward_orders_exclude_cycles, full_fences_are_kept, weaker_models_allow_more,
 };
 pub use outcomes::{
     fenced_store_buffering, independent_reads, load_buffering, message_passing, open_section,
@@ -39,6 +47,7 @@ pub use outcomes::{
     store_buffering, store_forwarding, two_plus_two_writes, write_read_coherence,
     write_write_coherence,
 };
+pub use sorting::Acyclic;
 
 /// A memory model.
 #[derive(Debug, Clone, Copy, PartialEq, Eq, Drop)]

@@ -1,0 +1,5 @@
+use Rattle.std.proofs.Common.{ℕ, ◌<◌, ◌≤◌, length, slice_index}
+use Rattle.axiom_model.proofs.graph.place_of_least.Given as goal
+
+abbrev pub invariant-loop-place : goal.invariant-loop-place
+invariant-loop-place l = record { within : l.least < length l.nodes; least : (k : ℕ) → k < l.place → slice_index l.nodes l.least ≤ slice_index l.nodes k }
