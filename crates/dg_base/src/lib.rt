@@ -40,5 +40,5 @@ pub struct Place {
 }
 
 /// A literal: two times its variable, plus 1 where it is negated. Variables count from 1.
-#[derive(Debug, Clone, Copy, PartialEq, Eq, Drop)]
+#[derive(Debug, Clone, Copy, PartialEq, Eq, Default, Drop)]
 pub struct Lit(pub u32);
