@@ -1,0 +1,9 @@
+pub mod Places
+pub mod Levels
+pub mod Counting
+pub mod Marks
+pub mod Resolving
+pub mod Asserting
+pub mod Steps
+pub mod Walk
+pub mod Collecting
