@@ -1,0 +1,12 @@
+pub mod Chains
+pub mod Watches
+pub mod Cuts
+pub mod Twins
+pub mod Visits
+pub mod TrailLaws
+pub mod Places
+pub mod Known
+pub mod Turns
+pub mod Laying
+pub mod Ranks
+pub mod Adding
