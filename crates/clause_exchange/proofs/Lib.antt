@@ -1,0 +1,17 @@
+pub mod Listed
+pub mod Sharing
+pub mod Keeping
+pub mod Stepping
+pub mod Appending
+pub mod Looking
+pub mod Storing
+pub mod Splitting
+pub mod Opening
+pub mod Offering
+pub mod Words
+pub mod Decoding
+pub mod CallLaws
+pub mod ClosingLaws
+pub mod Tying
+pub mod Seating
+pub mod NewSeats

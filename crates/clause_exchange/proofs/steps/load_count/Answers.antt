@@ -1,0 +1,9 @@
+use Rattle.std.proofs.Common.{arith}
+use Rattle.clause_exchange.proofs.Looking.{looks}
+use Rattle.clause_exchange.proofs.steps.load_count.Goals as goal
+
+pub load-requires : goal.load-requires
+load-requires g c =
+    let k = c.args.board.now.table.shared.key in
+    let z = c.args.board.now.table.shared.table_id in
+    (c.requires.0, (let s = c.args.board.now.sized.0 in let w = c.requires.1.1.1.0 in omega arith), looks k.problem.now k.workers k.share_words z.slots c.args.seat.now.id c.args.seat.now.me g.told.0 c.args.row g.told.1 c.requires.1.0 c.requires.1.1.1.1 c.requires.1.1.0)
