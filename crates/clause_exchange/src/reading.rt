@@ -12,6 +12,7 @@ use cnf_problem::Lemma;
 use dg_base::Lit;
 
 /// An entry of another number's row: its first `len` literals are the lemma's.
+#[derive(Drop)]
 pub struct Shared {
     pub ticket: u32,
     pub worker: u32,
