@@ -16,7 +16,7 @@ use Rattle.clause_store.specs.Linked.{LinksView}
 use Rattle.clause_store.specs.Watching.{GuardsHere, IsTrueForEver, Watches, clause_of, watched, twin}
 use Rattle.clause_store.specs.Visiting.{IsFree, IsDone, IsLookedAt, satisfied, moved, forced, refuted}
 use Rattle.clause_store.specs.Stores.{AreWatched}
-use Rattle.clause_store.proofs.Cuts.{up_to_all}
+use Rattle.trail_state.proofs.Cuts.{up_to_all}
 use Rattle.clause_store.proofs.Twins.{twin-odd}
 use Rattle.clause_store.proofs.TrailLaws.{assigned}
 use Rattle.clause_store.proofs.Visits.{contrary, done_forced, free_push}

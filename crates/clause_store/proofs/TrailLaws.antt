@@ -13,7 +13,7 @@ use Rattle.clause_store.specs.Linked.{IsLinked, LinksView, end_of_list}
 use Rattle.clause_store.specs.Watching.{GuardsBelow, IsLink, IsRoomy, IsTrueForEver, LowerTaken, Watches, clause_of, watched, twin}
 use Rattle.clause_store.specs.Visiting.{IsFree}
 use Rattle.clause_store.specs.Stores.{AreWatched, IsUndone}
-use Rattle.clause_store.proofs.Cuts.{up_to_all, up_to-up_to, level-up_to, up_to-append, up_to-decided, up_to_front, level-forced, level-decided}
+use Rattle.trail_state.proofs.Cuts.{up_to_all, up_to-up_to, level-up_to, up_to-append, up_to-decided, up_to_front, level-forced, level-decided}
 use Rattle.clause_store.proofs.Watches.{fixpoint_from_quiet, cut_within, below_after_undo, here_after_undo, below_after_assign, below_after_decide, here_after_more}
 use Rattle.clause_store.proofs.Visits.{negated-other, forever_more, quiet_at_end}
 

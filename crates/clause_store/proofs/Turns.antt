@@ -15,7 +15,7 @@ use Rattle.clause_store.specs.Linked.{IsLinked, LinksView, end_of_list}
 use Rattle.clause_store.specs.Watching.{IsRoomy, LowerTaken, watched}
 use Rattle.clause_store.specs.Visiting.{IsFree, IsAt, IsOwing, IsVisiting}
 use Rattle.clause_store.specs.Stores.{AreWatched, IsUndone}
-use Rattle.clause_store.proofs.Cuts.{up_to_front, up_to-append, level-forced}
+use Rattle.trail_state.proofs.Cuts.{up_to_front, up_to-append, level-forced}
 use Rattle.clause_store.proofs.Watches.{fixpoint_from_quiet}
 use Rattle.clause_store.proofs.Places.{get-append_left}
 use Rattle.clause_store.proofs.TrailLaws.{place_of, well_free, undone_lower}

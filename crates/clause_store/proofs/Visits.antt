@@ -14,7 +14,8 @@ use Rattle.clause_store.specs.Linked.{IsChain, end_of_list, list_of, IsLinked}
 use Rattle.clause_store.specs.Watching.{GuardsBelow, GuardsHere, IsLink, IsRoomy, IsTrueForEver, Watches, clause_of, watched, twin}
 use Rattle.clause_store.specs.Visiting.{IsFree, IsAt, IsVisiting, IsOwing, IsPlaced, IsDone, satisfied, moved, forced, refuted}
 use Rattle.trail_state.specs.Forcing.{AddsForced, none, one}
-use Rattle.clause_store.proofs.Cuts.{up_to-append, level-forced, kept-up_to}
+use Rattle.trail_state.proofs.Cuts.{up_to-append, level-forced}
+use Rattle.clause_store.proofs.Cuts.{kept-up_to}
 use Rattle.clause_store.proofs.Watches.{cut_within, below_after_assign, here_after_more}
 use Rattle.clause_store.proofs.Chains.{relinked, chain_once, taken_out}
 use Rattle.std.proofs.lemmas.List.{get_or_default}

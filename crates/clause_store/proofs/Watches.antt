@@ -11,7 +11,7 @@ use Rattle.cnf_problem.proofs.Members.{contains_take}
 use Rattle.trail_state.specs.Trails.{Assigned, Decided, Forced, true_lits, level, up_to}
 use Rattle.clause_store.specs.Watching.{GuardsBelow, GuardsHere}
 use Rattle.clause_store.specs.Visiting.{IsFree}
-use Rattle.clause_store.proofs.Cuts.{up_to-up_to, level-up_to, up_to-append, up_to-decided, up_to_front}
+use Rattle.trail_state.proofs.Cuts.{up_to-up_to, level-up_to, up_to-append, up_to-decided, up_to_front}
 
 -- the clause has the two literals, each of which guards the other as far as the trail was taken
 pub record IsWatched (entries : List Assigned) (taken : ℕ) (clause : List Lit) (a b : Lit) : Type 0 where

@@ -60,3 +60,47 @@ fn an_added_clause_is_looked_at(rt: HostRuntime) -> Result<(), Fail> {
     }
     Ok(())
 }
+
+#[derive(Drop)]
+enum Odd {
+    BothSigns,
+    Empty,
+    Twice,
+    TwiceEach,
+}
+
+// A problem with the constant, the variable 2 and clauses that cannot be watched, or need not be.
+fn odd_problem(alloc: Global, odd: &Odd) -> Result<Problem, OutOfMemory> {
+    let mut gates = Gates::new(alloc)?;
+    let a = gates.fresh()?;
+    match odd {
+        Odd::BothSigns => gates.clause(&[a, negated(a)])?,
+        Odd::Empty => gates.clause(&[])?,
+        Odd::Twice => gates.clause(&[a, a])?,
+        Odd::TwiceEach => {
+            gates.clause(&[a, a])?;
+            gates.clause(&[negated(a), negated(a)])?;
+        }
+    }
+    gates.finish(List::new(alloc), List::new(alloc), List::new(alloc))
+}
+
+#[test]
+fn odd_clauses_are_looked_at(rt: HostRuntime) -> Result<(), Fail> {
+    // The clause that is false, and how many literals are true.
+    let rows = [
+        (Odd::BothSigns, None, 1),
+        (Odd::Empty, Some(1), 1),
+        (Odd::Twice, None, 2),
+        (Odd::TwiceEach, Some(2), 2),
+    ];
+    for (odd, conflict, count) in rows {
+        let problem = odd_problem(rt.alloc(), &odd)?;
+        let mut store = Store::new(rt.alloc(), &problem)?;
+        let mut trail = Trail::new(rt.alloc(), problem.vars)?;
+        let found = store.propagate(&problem, &mut trail);
+        assert_eq!(rt; found.map(|id| id.0), conflict);
+        assert_eq!(rt; trail.len(), count);
+    }
+    Ok(())
+}
