@@ -19,7 +19,7 @@ use Rattle.clause_exchange.specs.Rule.{blank_row, blank_part, new_view}
 use Rattle.clause_exchange.specs.Spelling.{spelled}
 use Rattle.clause_exchange.specs.Plays.{mine, with_part, with_entry}
 use Rattle.clause_exchange.specs.Splits.{with_parts, below}
-use Rattle.clause_exchange.specs.Calls.{CanAppend, IsLogged, Cuts, after_share}
+use Rattle.clause_exchange.specs.Calls.{HasOne, CanAppend, IsLogged, Cuts, after_share}
 use Rattle.clause_exchange.proofs.Opening.{there_same}
 
 -- a lemma that is a clause of the problem
@@ -58,6 +58,11 @@ may_append p v l lemma e is vars clauses kind lits = subst (λ u. CanAppend u le
 pub logged : (v w : View) (t : ℕ) (l : Lemma) (entry : Logged.Entry) → w ≡ with_part v (with_entry (mine v) t l) → t ≡ entry.ticket → l ≡ entry.lemma → (e : Entry) × IsLogged (mine w) entry e
 logged v w t l entry e ticket lemma = subst (λ (u : View). (x : Entry) × IsLogged (mine u) entry x) (sym e) (_, record { listed = Contains-append_right (mine v).log (_ ∷ []) _ (contains_head _ []); ticket_is = ticket; lemma_is = lemma })
 
-pub logged_shared : (b : Bool) (v w : View) (entry : Logged.Entry) → MatchBool b ((e : Entry) × IsLogged (mine v) entry e × (w ≡ after_share v e)) (w ≡ v) → ((e : Entry) × IsLogged (mine v) entry e) → (e : Entry) × IsLogged (mine w) entry e
-logged_shared true v w entry s h = subst (λ (u : View). (x : Entry) × IsLogged (mine u) entry x) (sym s.2) (h.0, record { listed = h.1.listed; ticket_is = h.1.ticket_is; lemma_is = h.1.lemma_is })
+pub logged_shared : (b : Bool) (v w : View) (entry : Logged.Entry) → MatchBool b ((e : Entry) → IsLogged (mine v) entry e → w ≡ after_share v e) (w ≡ v) → ((e : Entry) × IsLogged (mine v) entry e) → (e : Entry) × IsLogged (mine w) entry e
+logged_shared true v w entry s h = subst (λ (u : View). (x : Entry) × IsLogged (mine u) entry x) (sym (s h.0 h.1)) (h.0, record { listed = h.1.listed; ticket_is = h.1.ticket_is; lemma_is = h.1.lemma_is })
 logged_shared false v w entry s h = subst (λ (u : View). (x : Entry) × IsLogged (mine u) entry x) (sym s) h
+
+-- a seat that has appended and then shared has one number
+pub one_shared : (b : Bool) (u v w : View) (t : ℕ) (l : Lemma) (entry : Logged.Entry) → v ≡ with_part u (with_entry (mine u) t l) → MatchBool b ((e : Entry) → IsLogged (mine v) entry e → w ≡ after_share v e) (w ≡ v) → ((e : Entry) × IsLogged (mine v) entry e) → HasOne w
+one_shared true u v w t l entry e s h = subst HasOne (sym (s h.0 h.1)) refl
+one_shared false u v w t l entry e s h = subst HasOne (sym (s ∙ e)) refl

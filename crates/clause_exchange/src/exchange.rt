@@ -88,7 +88,7 @@ impl<'a> Exchange<'a> {
         requires one { HasOne seat.old.view }
         requires logged { (e : TheEntry) × IsLogged (mine seat.old.view) entry.now e }
         ensures same { exchange_of seat.new ≡ exchange_of seat.old }
-        ensures shared { MatchBool result ((e : TheEntry) × IsLogged (mine seat.old.view) entry.now e × (seat.new.view ≡ after_share seat.old.view e)) (seat.new.view ≡ seat.old.view) }
+        ensures shared { MatchBool result ((e : TheEntry) → IsLogged (mine seat.old.view) entry.now e → seat.new.view ≡ after_share seat.old.view e) (seat.new.view ≡ seat.old.view) }
         ensures room { MatchBool result (HasRoom seat.old.view.share_words (mine seat.old.view) (length entry.now.lemma.lits)) (HasNoRoom seat.old.view.share_words (mine seat.old.view) (length entry.now.lemma.lits)) }
     {
         let lits = entry.lemma.lits.as_slice();

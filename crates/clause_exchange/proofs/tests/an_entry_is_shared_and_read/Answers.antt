@@ -1,5 +1,5 @@
 use Rattle.std.proofs.Common.{refl}
-use Rattle.clause_exchange.proofs.TwoSeats.{cut_two, may_append, logged, logged_shared}
+use Rattle.clause_exchange.proofs.TwoSeats.{cut_two, may_append, logged, logged_shared, one_shared}
 use Rattle.clause_exchange.proofs.tests.an_entry_is_shared_and_read.Goals as goal
 
 pub split-one-requires-clause-within : goal.split-one-requires-clause-within
@@ -13,3 +13,6 @@ share-shared-requires-clause-logged g c = logged c.split-one.new.seat.view c.app
 
 pub share-again-requires-clause-logged : goal.share-again-requires-clause-logged
 share-again-requires-clause-logged g c = logged_shared c.share-shared.result c.append-ticket.new.seat.view c.share-shared.new.seat.view (record { ticket = c.append-ticket.result; worker = 0; lemma = c.in_ok-lemma.lemma }) c.share-shared.ensures.shared (logged c.split-one.new.seat.view c.append-ticket.new.seat.view c.append-ticket.result c.in_ok-lemma.lemma (record { ticket = c.append-ticket.result; worker = 0; lemma = c.in_ok-lemma.lemma }) c.append-ticket.ensures.log refl refl)
+
+pub share-again-requires-clause-one : goal.share-again-requires-clause-one
+share-again-requires-clause-one g c = one_shared c.share-shared.result c.split-one.new.seat.view c.append-ticket.new.seat.view c.share-shared.new.seat.view c.append-ticket.result c.in_ok-lemma.lemma (record { ticket = c.append-ticket.result; worker = 0; lemma = c.in_ok-lemma.lemma }) c.append-ticket.ensures.log c.share-shared.ensures.shared (logged c.split-one.new.seat.view c.append-ticket.new.seat.view c.append-ticket.result c.in_ok-lemma.lemma (record { ticket = c.append-ticket.result; worker = 0; lemma = c.in_ok-lemma.lemma }) c.append-ticket.ensures.log refl refl)

@@ -99,14 +99,9 @@ returns-clause-same c =
 
 pub returns-clause-shared : goal.returns-clause-shared
 returns-clause-shared c =
-    let s = c.seat.inside in
+    λ e logged.
     let seen = ap (λ (q : SeatState). q.view) c.seat.view_is in
-    let one = subst HasOne (sym seen) c.requires.one in
-    let v = s.token.me.0 in
-    let t = c.seat.invariant.0 in
-    let e = c.requires.logged.0 in
-    let logged = subst (λ (u : View). IsLogged (mine u) c.args.entry.now e) (sym seen) c.requires.logged.1 in
+    let here = subst (λ (u : View). IsLogged (mine u) c.args.entry.now e) (sym seen) logged in
     let lits = c.as_slice-lits.result.now in
-    let is : IsOfLog (mine v) c.args.entry.now.ticket lits e = record { listed = logged.listed; ticket_is = sym logged.ticket_is; lits_are = c.as_slice-lits.ensures ∙ ap (λ (l : Lemma). l.lits) (sym logged.lemma_is) } in
-    let told = c.share_entry.ensures in
-    (e, c.requires.logged.1, told.shared e is ∙ ap (λ (u : View). after_share u e) seen)
+    let is : IsOfLog (mine c.seat.inside.token.me.0) c.args.entry.now.ticket lits e = record { listed = here.listed; ticket_is = sym here.ticket_is; lits_are = c.as_slice-lits.ensures ∙ ap (λ (l : Lemma). l.lits) (sym here.lemma_is) } in
+    c.share_entry.ensures.shared e is ∙ ap (λ (u : View). after_share u e) seen
