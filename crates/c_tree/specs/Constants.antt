@@ -3,6 +3,7 @@
 use Rattle.std.specs.Prelude.{ℕ, [], ◌∷◌, Bool, cond, nat_eq, ◌&&◌, ◌||◌, Option, Some, None}
 use Rattle.dg_base.specs.declared.operators.Op.TheVariants as op
 use Rattle.dg_base.specs.Values.{value_of}
+use Rattle.c_tree.specs.declared.constants.Constant.{Constant}
 use Rattle.c_tree.specs.declared.expr.TypeWord.{TypeWord}
 use Rattle.c_tree.specs.declared.expr.TypeWord.TheVariants as type
 use Rattle.c_tree.specs.declared.expr.UnaryOp.{UnaryOp}
@@ -10,11 +11,6 @@ use Rattle.c_tree.specs.declared.expr.BinaryOp.{BinaryOp}
 use Rattle.c_tree.specs.declared.expr.Expr.{Expr, fold-Expr}
 use Rattle.c_tree.specs.declared.expr.Expr.TheOpen.{Expr-F}
 use Rattle.c_tree.specs.Operators.{word_unsigned, unary_op, unary_unsigned, binary_op, binary_unsigned, divides}
-
--- a constant's value, and whether it is Uint
-pub record Constant : Type 0 where
-  pub value : ℕ
-  pub unsigned : Bool
 
 abbrev pub constant_number : ℕ → Bool → Option Constant
 constant_number v u = Some (record { value = v; unsigned = u })
