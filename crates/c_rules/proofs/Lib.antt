@@ -1,0 +1,5 @@
+pub mod Passing
+pub mod Growing
+pub mod Table
+pub mod Wholes
+pub mod JudgedTable
