@@ -1,3 +1,5 @@
+mod scanning;
+
 use crate::Store;
 use cnf_problem::{Gates, Problem, negated};
 use dg_base::{List, Lit, OutOfMemory};

@@ -12,6 +12,8 @@ use std::alloc::Global;
 use std::test::Fail;
 use trail_state::{ClauseId, Reason, Reasons, Trail};
 
+mod driving;
+
 // Clauses that serve as reasons.
 #[derive(Drop)]
 struct Rules {
@@ -161,15 +163,37 @@ struct Case<'a> {
     back: u32,
 }
 
+fn clause_of(alloc: Global, row: &[i32]) -> Result<Vec<Lit>, OutOfMemory> {
+    let mut clause = Vec::new(alloc);
+    for number in row {
+        clause.push(lit(*number))?;
+    }
+    Ok(clause)
+}
+
 fn push_all(clauses: &mut Clauses, alloc: Global, rows: &[&[i32]]) -> Result<(), OutOfMemory> {
     for row in rows {
-        let mut clause = Vec::new(alloc);
-        for number in *row {
-            clause.push(lit(*number))?;
-        }
-        clauses.push(&clause)?;
+        clauses.push(&clause_of(alloc, row)?)?;
     }
     Ok(())
+}
+
+// What is learnt from a clause, or nothing where `learn` does not take it.
+fn learnt_by(
+    alloc: Global,
+    trail: &Trail,
+    rules: &Rules,
+    conflict: usize,
+) -> Result<Option<Learnt>, OutOfMemory> {
+    if conflict >= rules.clauses.len() || trail.level() == 0 || !are_forced(trail, rules) {
+        return Ok(None);
+    }
+    let conflict = rules.clauses.get(conflict);
+    if !all_false(trail, conflict) || !has_last(trail, conflict) {
+        return Ok(None);
+    }
+    let learnt = learn(alloc, trail, rules, conflict)?;
+    Ok(Some(learnt))
 }
 
 // What is learnt, or nothing where the case is not one that `learn` takes.
@@ -183,22 +207,16 @@ fn learnt_from(alloc: Global, case: &Case) -> Result<Option<Learnt>, OutOfMemory
             return Ok(None);
         }
     }
-    if case.conflict >= rules.clauses.len() || trail.level() == 0 || !are_forced(&trail, &rules) {
-        return Ok(None);
-    }
-    let conflict = rules.clauses.get(case.conflict);
-    if !all_false(&trail, conflict) || !has_last(&trail, conflict) {
-        return Ok(None);
-    }
-    let learnt = learn(alloc, &trail, &rules, conflict)?;
-    Ok(Some(learnt))
+    learnt_by(alloc, &trail, &rules, case.conflict)
+}
+
+// Whether the literals are those of the row, in any order.
+fn is_row(lits: &[Lit], row: &[i32]) -> bool {
+    lits.len() == row.len() && row.iter().all(|number| has(lits, lit(*number)))
 }
 
 fn is_wanted(learnt: &Learnt, case: &Case) -> bool {
-    let lits = learnt.lits.as_slice();
-    learnt.back == case.back
-        && lits.len() == case.want.len()
-        && case.want.iter().all(|number| has(lits, lit(*number)))
+    learnt.back == case.back && is_row(learnt.lits.as_slice(), case.want)
 }
 
 fn passes(alloc: Global, case: &Case) -> Result<bool, OutOfMemory> {
