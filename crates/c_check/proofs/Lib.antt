@@ -1,0 +1,13 @@
+pub mod Gathering
+pub mod Adding
+pub mod Namings
+pub mod Forms
+pub mod Walking
+pub mod Capping
+pub mod SameCost
+pub mod SameWalk
+pub mod Searches
+pub mod Edges
+pub mod Tables
+pub mod Limiting
+pub mod Cells

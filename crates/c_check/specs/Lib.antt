@@ -1,0 +1,11 @@
+pub mod Sections
+pub mod Recursion
+pub mod Graph
+pub mod Searching
+pub mod Counts
+pub mod Capped
+pub mod Ordering
+pub mod Limits
+pub mod Checked
+pub mod WellFormed
+pub mod Rest
