@@ -1,0 +1,14 @@
+pub mod Members
+pub mod Reaching
+pub mod Rowing
+pub mod Placing
+pub mod Relating
+pub mod Opening
+pub mod Numbered
+pub mod Finding
+pub mod Linking
+pub mod Joining
+pub mod Circling
+pub mod Crossing
+pub mod Deciding
+pub mod Excluding

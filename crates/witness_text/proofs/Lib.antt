@@ -1,0 +1,12 @@
+pub mod Answering
+pub mod Bytes
+pub mod Completing
+pub mod Digits
+pub mod Holding
+pub mod Rising
+pub mod Running
+pub mod Spelled
+pub mod Stepping
+pub mod Tested
+pub mod Texts
+pub mod Worded

@@ -1,0 +1,25 @@
+-- Texts that are written part by part.
+use Rattle.std.proofs.Common.{◌≡◌, ℕ, List, [], ◌∷◌, ◌++◌, Result, Ok, Err, append_assoc, refl, ap, sym, ◌∙◌}
+use Rattle.std.specs.Prelude.{OnOk, codes}
+use Rattle.witness_text.specs.Witness.{text_of, first_line, last_line}
+
+-- what follows from an Ok
+pub on_ok : {T E : Type 0} (r : Result T E) (P Q : Type 0) → (P → Q) → OnOk r P → OnOk r Q
+on_ok (Ok v) P Q f p = f p
+on_ok (Err e) P Q f p = p
+
+-- one more part behind what was there with the parts before
+pub then_part : {x y z : List ℕ} (part : List ℕ) → x ≡ y → z ≡ x ++ part → z ≡ y ++ part
+then_part part e f = f ∙ ap (λ l. l ++ part) e
+
+pub text_of_append : (a b : List (List ℕ)) → text_of (a ++ b) ≡ text_of a ++ text_of b
+text_of_append [] b = refl
+text_of_append (l ∷ a) b = ap (λ t. (l ++ 10 ∷ []) ++ t) (text_of_append a b) ∙ sym (append_assoc (l ++ 10 ∷ []) (text_of a) (text_of b))
+
+-- the whole text behind what was there
+pub whole_text : (o : List ℕ) (a b c : List (List ℕ))
+    → (((((o ++ codes "deagle-witness 1\n") ++ text_of a) ++ text_of b) ++ text_of c) ++ codes "end\n") ≡ o ++ text_of (first_line ∷ (a ++ (b ++ (c ++ last_line ∷ []))))
+whole_text o a b c =
+    let inner : text_of (a ++ (b ++ (c ++ last_line ∷ []))) ≡ text_of a ++ (text_of b ++ (text_of c ++ codes "end\n")) =
+    text_of_append a (b ++ (c ++ last_line ∷ [])) ∙ ap (λ t. text_of a ++ t) (text_of_append b (c ++ last_line ∷ []) ∙ ap (λ t. text_of b ++ t) (text_of_append c (last_line ∷ []))) in
+    simp append_assoc (ap (λ t. o ++ (codes "deagle-witness 1\n" ++ t)) (sym inner))

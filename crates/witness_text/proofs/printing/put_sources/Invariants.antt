@@ -1,0 +1,7 @@
+use Rattle.std.proofs.Common.{◌≡◌, ◌++◌, drop, map}
+use Rattle.witness_text.specs.Witness.{rf_line, text_of}
+use Rattle.witness_text.proofs.printing.put_sources.Given as goal
+
+-- what is written, with the lines to come, is what was there with all lines
+abbrev pub invariant-loop-pair : goal.invariant-loop-pair
+invariant-loop-pair l = l.out.items ++ text_of (map rf_line (drop l.pair-index l.pairs)) ≡ l.fn.out.items ++ text_of (map rf_line l.pairs)

@@ -1,0 +1,8 @@
+use Rattle.std.proofs.Common.{◌≡◌, ◌++◌, drop}
+use Rattle.std.specs.Prelude.{flat_map}
+use Rattle.witness_text.specs.Witness.{text_of, thread_lines}
+use Rattle.witness_text.proofs.printing.put_threads.Given as goal
+
+-- what is written, with the lines to come, is what was there with all lines
+abbrev pub invariant-loop-part : goal.invariant-loop-part
+invariant-loop-part l = l.out.items ++ text_of (flat_map (thread_lines l.functions) (drop l.part-index l.parts)) ≡ l.fn.out.items ++ text_of (flat_map (thread_lines l.functions) l.parts)

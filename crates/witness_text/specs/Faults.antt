@@ -1,0 +1,10 @@
+-- What a fault says of a text.
+use Rattle.std.specs.Prelude.{ℕ, List}
+use Rattle.witness_text.specs.declared.reading.WitnessFault.{WitnessFault}
+use Rattle.witness_text.specs.declared.reading.WitnessFault.TheVariants.{WitnessText, OutOfMemory}
+use Rattle.witness_text.specs.Spelling.{Refuses}
+
+-- only want of memory has no cause in the text
+abbrev pub IsFaultOf : List (List ℕ) → List (List ℕ) → List ℕ → WitnessFault → Type 0
+IsFaultOf functions cells text (WitnessText line) = Refuses functions cells text line
+IsFaultOf functions cells text OutOfMemory = Unit {0}

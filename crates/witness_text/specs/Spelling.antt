@@ -1,0 +1,126 @@
+-- Which candidates have a text, which text spells which, and where a text that spells none goes wrong.
+use Rattle.std.specs.Prelude.{◌≡◌, ◌≢◌, ℕ, suc, ◌^◌, ◌<◌, min, Bool, true, false, nat_lt, ◌&&◌, ◌||◌, ◌==◌, if◌then◌else◌, List, [], ◌∷◌, ◌++◌, map, length}
+use Rattle.std.specs.List.{AllByRecursion}
+use Rattle.axiom_model.specs.declared.Event.{Event}
+use Rattle.axiom_model.specs.declared.Event.TheVariants.{Initial, At}
+use Rattle.axiom_model.specs.declared.RfPair.{RfPair}
+use Rattle.axiom_model.specs.declared.ThreadPart.{ThreadPart}
+use Rattle.axiom_model.specs.declared.Candidate.{Candidate}
+use Rattle.c_check.specs.declared.checked.CellInfo.{CellInfo}
+use Rattle.witness_text.specs.Witness.{text_of, witness_text}
+
+-- the names of the cells, in their order
+abbrev pub cell_names : List CellInfo → List (List ℕ)
+cell_names cells = map (λ (cell : CellInfo). cell.name) cells
+
+-- whether a byte does not stand in a text
+abbrev pub lacks : ℕ → List ℕ → Bool
+lacks b [] = true
+lacks b (x ∷ xs) = if x == b then false else lacks b xs
+
+abbrev pub AreDistinct : List (List ℕ) → Type 0
+AreDistinct [] = Unit {0}
+AreDistinct (x ∷ xs) = AllByRecursion (λ y. x ≢ y) xs × AreDistinct xs
+
+-- No name of a function holds a blank or a line feed, and none comes twice; no name of a cell holds a line feed.
+pub record HasPlainNames (functions cells : List (List ℕ)) : Type 0 where
+  pub no_blank : AllByRecursion (λ name. lacks 32 name ≡ true) functions
+  pub no_feed : AllByRecursion (λ name. lacks 10 name ≡ true) functions
+  pub distinct : AreDistinct functions
+  pub no_feed_in_cells : AllByRecursion (λ name. lacks 10 name ≡ true) cells
+
+-- The numbers of a candidate have 32 bits.
+abbrev pub IsNumber : ℕ → Type 0
+IsNumber n = n < 2 ^ 32
+
+abbrev pub HasEventNumbers : Event → Type 0
+HasEventNumbers Initial = Unit {0}
+HasEventNumbers (At h i) = IsNumber h × IsNumber i
+
+abbrev pub HasPairNumbers : RfPair → Type 0
+HasPairNumbers p = HasEventNumbers p.reader × HasEventNumbers p.source
+
+pub record HasThreadNumbers (p : ThreadPart) : Type 0 where
+  pub handle : IsNumber p.handle
+  pub function : IsNumber p.function
+  pub arg : IsNumber p.arg
+  pub script : AllByRecursion IsNumber p.script
+
+pub record HasNumbers (c : Candidate) : Type 0 where
+  pub threads : AllByRecursion HasThreadNumbers c.threads
+  pub rf : AllByRecursion HasPairNumbers c.rf
+  pub co : AllByRecursion (AllByRecursion HasEventNumbers) c.co
+
+-- whether each of a list stands before the next one
+abbrev pub rises_from : {A : Type 0} → (A → A → Bool) → A → List A → Bool
+rises_from before x [] = true
+rises_from before x (y ∷ ys) = before x y && rises_from before y ys
+
+abbrev pub rises : {A : Type 0} → (A → A → Bool) → List A → Bool
+rises before [] = true
+rises before (x ∷ xs) = rises_from before x xs
+
+abbrev pub handle_before : ThreadPart → ThreadPart → Bool
+handle_before p q = nat_lt p.handle q.handle
+
+-- by handle and index; an initial write stands before and behind nothing
+abbrev pub event_before : Event → Event → Bool
+event_before Initial y = false
+event_before (At h i) Initial = false
+event_before (At h i) (At k j) = nat_lt h k || (h == k && nat_lt i j)
+
+abbrev pub reader_before : RfPair → RfPair → Bool
+reader_before p q = event_before p.reader q.reader
+
+abbrev pub is_action : Event → Bool
+is_action Initial = false
+is_action (At h i) = true
+
+-- A candidate that has a text: each function is one of the program, handles rise strictly, the readers are actions and rise
+-- strictly by handle and index, and each cell has an order.
+pub record IsSpellable (functions cells : List (List ℕ)) (c : Candidate) : Type 0 where
+  pub known : AllByRecursion (λ (p : ThreadPart). p.function < length functions) c.threads
+  pub rising_handles : rises handle_before c.threads ≡ true
+  pub actions : AllByRecursion (λ (p : RfPair). is_action p.reader ≡ true) c.rf
+  pub rising_readers : rises reader_before c.rf ≡ true
+  pub orders : length c.co ≡ length cells
+
+-- The text spells this candidate.
+pub record Spells (functions cells : List (List ℕ)) (c : Candidate) (text : List ℕ) : Type 0 where
+  pub numbers : HasNumbers c
+  pub spellable : IsSpellable functions cells c
+  pub spelled : text ≡ witness_text functions cells c
+
+-- some spelling begins with these lines
+abbrev pub Begins : List (List ℕ) → List (List ℕ) → List (List ℕ) → Type 0
+Begins functions cells lines = (c : Candidate) × (more : List ℕ) × Spells functions cells c (text_of lines ++ more)
+
+-- The longest run of whole lines at the front of the text with which some spelling begins.
+pub record IsLongestRun (functions cells : List (List ℕ)) (text : List ℕ) (lines : List (List ℕ)) (rest : List ℕ) : Type 0 where
+  pub all : text ≡ text_of lines ++ rest
+  pub whole : AllByRecursion (λ line. lacks 10 line ≡ true) lines
+  pub begins : Begins functions cells lines
+  pub ends : (line more : List ℕ) → lacks 10 line ≡ true → rest ≡ line ++ 10 ∷ more → Begins functions cells (lines ++ line ∷ []) → ⊥
+
+-- a number that needs more than 32 bits is told as the greatest one
+abbrev pub told : ℕ → ℕ
+told n = min n 4294967295
+
+-- The text spells no candidate, and this is the number of the line behind the longest run, from 1.
+pub record Refuses (functions cells : List (List ℕ)) (text : List ℕ) (line : ℕ) : Type 0 where
+  pub none : (c : Candidate) → Spells functions cells c text → ⊥
+  pub lines : List (List ℕ)
+  pub rest : List ℕ
+  pub run : IsLongestRun functions cells text lines rest
+  pub number : line ≡ told (suc (length lines))
+
+-- a text spells at most one candidate
+abbrev pub OneCandidate : Type 0
+OneCandidate =
+    (functions cells : List (List ℕ)) (text : List ℕ) (c d : Candidate) → HasPlainNames functions cells → Spells functions cells c text → Spells functions cells d text → c ≡ d
+
+-- no spelling is a proper prefix of another
+abbrev pub NoProperPrefix : Type 0
+NoProperPrefix =
+    (functions cells : List (List ℕ)) (text more : List ℕ) (c d : Candidate) → HasPlainNames functions cells → Spells functions cells c text → Spells functions cells d (text ++ more)
+    → more ≡ []
