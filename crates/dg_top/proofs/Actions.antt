@@ -8,9 +8,9 @@ use Rattle.axiom_model.specs.declared.Action.TheVariants.{Read, Write, Create, J
 use Rattle.axiom_model.specs.Execution.{Thread}
 use Rattle.axiom_model.specs.Failing.{Run}
 use Rattle.axiom_model.proofs.Threads.{RunsIts}
-use Rattle.c_front.specs.declared.form.Form.{Form}
-use Rattle.c_front.specs.declared.form.FormThread.{FormThread}
-use Rattle.c_front.specs.declared.form.FormCheck.{FormCheck}
+use Rattle.first_form.specs.declared.form.Form.{Form}
+use Rattle.first_form.specs.declared.form.FormThread.{FormThread}
+use Rattle.first_form.specs.declared.form.FormCheck.{FormCheck}
 use Rattle.dg_top.specs.Runs.{ended, acting, writing, thread_run, checks_run, joins_run, creating, run_of, form_runs}
 use Rattle.dg_top.proofs.Lists.{slice_get-append_right, slice_get-append_left, slice_get-append, only_place}
 use Rattle.dg_top.proofs.RunSteps.{option_map_some, CheckStep, check_step, JoinStep, join_step}

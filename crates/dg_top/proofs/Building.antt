@@ -3,7 +3,7 @@ use Rattle.std.proofs.Common.{◌≡◌, ℕ, suc, ◌+◌, ◌-◌, ◌<◌, Li
 use Rattle.std.proofs.Math.Seq.{drop-cons}
 use Rattle.axiom_model.specs.declared.Event.{Event}
 use Rattle.axiom_model.specs.declared.Event.TheVariants.{At}
-use Rattle.c_front.specs.declared.form.Form.{Form}
+use Rattle.first_form.specs.declared.form.Form.{Form}
 use Rattle.dg_top.specs.Final.{events_from, is_by, other_writes, reads_from, write_events}
 
 one_more : (n i : ℕ) → i < n → n - i ≡ suc (n - (i + 1))

@@ -9,8 +9,8 @@ use Rattle.axiom_model.specs.declared.Event.TheVariants.{Initial, At}
 use Rattle.axiom_model.specs.Execution.{Thread, Execution, actions_of, action_at}
 use Rattle.axiom_model.specs.WellMade.{WellMade}
 use Rattle.axiom_model.proofs.Threads.{Acts, acts_from, actions_of-thread, one_thread, RunsIts}
-use Rattle.c_front.specs.declared.form.Form.{Form}
-use Rattle.c_front.specs.Form.{IsProgram, written_by}
+use Rattle.first_form.specs.declared.form.Form.{Form}
+use Rattle.first_form.specs.Form.{IsProgram, written_by}
 use Rattle.dg_top.specs.Runs.{form_runs, form_shape}
 use Rattle.dg_top.specs.Final.{created_writes, writes_of}
 use Rattle.dg_top.proofs.Lists.{All-slice_get, none_past}

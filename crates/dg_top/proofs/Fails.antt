@@ -4,9 +4,9 @@ use Rattle.std.specs.Prelude.{◌≢◌, slice_get, nat_eq}
 use Rattle.std.specs.List.{AllZip}
 use Rattle.axiom_model.specs.declared.Event.{Event}
 use Rattle.axiom_model.specs.Failing.{Run, RunsTo}
-use Rattle.c_front.specs.declared.form.Form.{Form}
-use Rattle.c_front.specs.declared.form.FormCheck.{FormCheck}
-use Rattle.c_front.specs.Form.{IsProgram}
+use Rattle.first_form.specs.declared.form.Form.{Form}
+use Rattle.first_form.specs.declared.form.FormCheck.{FormCheck}
+use Rattle.first_form.specs.Form.{IsProgram}
 use Rattle.dg_top.specs.Runs.{form_runs, FormFails}
 use Rattle.dg_top.specs.Final.{Final, main_part, execution_with}
 use Rattle.dg_top.proofs.FailsRuns.{main_fails, main_runs, created_run}

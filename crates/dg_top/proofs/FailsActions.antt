@@ -9,9 +9,9 @@ use Rattle.axiom_model.specs.declared.Event.{Event}
 use Rattle.axiom_model.specs.declared.Event.TheVariants.{At}
 use Rattle.axiom_model.specs.Execution.{Thread, actions_of}
 use Rattle.axiom_model.specs.Failing.{thread_of, threads_of}
-use Rattle.c_front.specs.declared.form.Form.{Form}
-use Rattle.c_front.specs.declared.form.FormCheck.{FormCheck}
-use Rattle.c_front.specs.Form.{function_writes}
+use Rattle.first_form.specs.declared.form.Form.{Form}
+use Rattle.first_form.specs.declared.form.FormCheck.{FormCheck}
+use Rattle.first_form.specs.Form.{function_writes}
 use Rattle.dg_top.specs.Runs.{writing, creating}
 use Rattle.dg_top.specs.Final.{created_writes, writes_of, parts_from, main_part}
 use Rattle.dg_top.proofs.FailsRuns.{joining, reading, main_actions, main_fails, writer_actions, created_runs}

@@ -7,9 +7,9 @@ use Rattle.axiom_model.specs.declared.Event.TheVariants.{Initial, At}
 use Rattle.axiom_model.specs.declared.RfPair.{RfPair}
 use Rattle.axiom_model.specs.Execution.{Thread, Execution, action_at}
 use Rattle.axiom_model.specs.Failing.{Run, thread_of, execution_of}
-use Rattle.c_front.specs.declared.form.Form.{Form}
-use Rattle.c_front.specs.declared.form.FormCheck.{FormCheck}
-use Rattle.c_front.specs.Form.{IsProgram, function_writes}
+use Rattle.first_form.specs.declared.form.Form.{Form}
+use Rattle.first_form.specs.declared.form.FormCheck.{FormCheck}
+use Rattle.first_form.specs.Form.{IsProgram, function_writes}
 use Rattle.dg_top.specs.Final.{created_writes, main_part, reads_from, execution_with}
 use Rattle.dg_top.proofs.Lists.{slice_get-le-sum_by}
 use Rattle.dg_top.proofs.FailsRuns.{main_fails, writer_run, created_runs}

@@ -5,7 +5,7 @@ use Rattle.std.proofs.lemmas.Bool.{cases_Bool, eqb-true, eq-eqb}
 use Rattle.std.proofs.Math.ListN.{length-append}
 use Rattle.axiom_model.specs.declared.Event.{Event}
 use Rattle.axiom_model.specs.declared.Event.TheVariants.{Initial, At}
-use Rattle.c_front.specs.declared.form.Form.{Form}
+use Rattle.first_form.specs.declared.form.Form.{Form}
 use Rattle.dg_top.specs.Final.{writes_of, Final, initial, written, is_by, write_order}
 use Rattle.dg_top.proofs.Lists.{slice_get-append_right}
 use Rattle.dg_top.proofs.FailsRank.{rank, rank_own, rank_other}

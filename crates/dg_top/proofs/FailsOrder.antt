@@ -12,9 +12,9 @@ use Rattle.axiom_model.specs.Execution.{action_at, IsOf, Rf, Co, Fr, SameBlock}
 use Rattle.axiom_model.specs.Models.{Kept, in_thread, in_section, creates, joins, initial, LocalEdge, GlobalEdge, Consistent}
 use Rattle.axiom_model.specs.Models as models
 use Rattle.axiom_model.proofs.Orders.{Forward, forward-no_cycle, forward-no_block_cycle}
-use Rattle.c_front.specs.declared.form.Form.{Form}
-use Rattle.c_front.specs.declared.form.FormCheck.{FormCheck}
-use Rattle.c_front.specs.Form.{IsProgram}
+use Rattle.first_form.specs.declared.form.Form.{Form}
+use Rattle.first_form.specs.declared.form.FormCheck.{FormCheck}
+use Rattle.first_form.specs.Form.{IsProgram}
 use Rattle.dg_top.specs.Final.{is_by, writes_of, write_order}
 use Rattle.dg_top.proofs.FailsActions.{Stands, main_start, create, join, read, start, write, end}
 use Rattle.dg_top.proofs.FailsRank.{rank, rank_early, rank_late, rank_own, rank_other, rank_before, rank_positive}

@@ -11,10 +11,10 @@ use Rattle.dg_base.specs.declared.Place.{Place}
 use Rattle.axiom_model.specs.declared.Action.{Action}
 use Rattle.axiom_model.specs.declared.Action.TheVariants.{Read, Join, Start, End}
 use Rattle.axiom_model.specs.Failing.{Run, RunsTo}
-use Rattle.c_front.specs.declared.form.Form.{Form}
-use Rattle.c_front.specs.declared.form.FormThread.{FormThread}
-use Rattle.c_front.specs.declared.form.FormCheck.{FormCheck}
-use Rattle.c_front.specs.Form.{function_writes, written_by}
+use Rattle.first_form.specs.declared.form.Form.{Form}
+use Rattle.first_form.specs.declared.form.FormThread.{FormThread}
+use Rattle.first_form.specs.declared.form.FormCheck.{FormCheck}
+use Rattle.first_form.specs.Form.{function_writes, written_by}
 use Rattle.dg_top.specs.Runs.{failed, acting, taking, writing, checks_run, joins_run, creating, run_of, form_runs}
 use Rattle.dg_top.specs.Final.{parts_from, main_part}
 

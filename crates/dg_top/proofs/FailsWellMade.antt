@@ -8,9 +8,9 @@ use Rattle.axiom_model.specs.declared.Event.TheVariants.{At}
 use Rattle.axiom_model.specs.declared.RfPair.{RfPair}
 use Rattle.axiom_model.specs.Execution.{Thread, action_at}
 use Rattle.axiom_model.specs.WellMade.{WellMade, Writes, SomeThread, ReadsOnce, IsWriteOrder}
-use Rattle.c_front.specs.declared.form.Form.{Form}
-use Rattle.c_front.specs.declared.form.FormCheck.{FormCheck}
-use Rattle.c_front.specs.Form.{IsProgram}
+use Rattle.first_form.specs.declared.form.Form.{Form}
+use Rattle.first_form.specs.declared.form.FormCheck.{FormCheck}
+use Rattle.first_form.specs.Form.{IsProgram}
 use Rattle.dg_top.specs.Runs.{initials_of, form_shape}
 use Rattle.dg_top.specs.Final.{writes_of, reads_from, write_order}
 use Rattle.dg_top.proofs.Lists.{All-from_slice_get, All-slice_get, AllPairs-from_slice_get}

@@ -5,7 +5,7 @@ use Rattle.std.proofs.lemmas.Bool.{cases_lt, cases_order, cases_Bool, eqb-true, 
 use Rattle.std.proofs.lemmas.Option.{slice_get_within}
 use Rattle.axiom_model.specs.declared.Event.{Event}
 use Rattle.axiom_model.specs.declared.Event.TheVariants.{Initial, At}
-use Rattle.c_front.specs.declared.form.Form.{Form}
+use Rattle.first_form.specs.declared.form.Form.{Form}
 use Rattle.dg_top.specs.Final.{created_writes, writes_of, is_by, events_from, write_events, other_writes, own_writes, write_order}
 use Rattle.dg_top.proofs.Lists.{slice_get-append, slice_get-append_left, slice_get-append_right}
 use Rattle.dg_top.proofs.FailsRank.{rank, rank_own, rank_other, rank_before, rank_positive}

@@ -12,7 +12,7 @@ use Rattle.axiom_model.specs.Execution.{Execution, actions_of, action_at, Co, Fr
 use Rattle.axiom_model.specs.WellMade.{ReadsOnce, Writes, IsWriteOrder}
 use Rattle.axiom_model.specs.Models.{Consistent}
 use Rattle.axiom_model.proofs.WriteOrders.{joined_not_later, co_follows_po, initial_before, co_cases}
-use Rattle.c_front.specs.declared.form.Form.{Form}
+use Rattle.first_form.specs.declared.form.Form.{Form}
 use Rattle.dg_top.specs.Runs.{form_shape, initials_of}
 use Rattle.dg_top.specs.Final.{created_writes, writes_of, Final, initial, written}
 use Rattle.dg_top.proofs.Lists.{last_of, nil_from_none}

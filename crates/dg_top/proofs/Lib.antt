@@ -19,3 +19,5 @@ mod Building
 mod Texts
 mod Unsafe
 mod Outcomes
+mod Refusing
+mod OneAnswer

@@ -5,8 +5,8 @@ use Rattle.dg_base.specs.declared.Place.{Place}
 use Rattle.axiom_model.specs.declared.Action.{Action}
 use Rattle.axiom_model.specs.declared.Action.TheVariants.{Read, Join, Start}
 use Rattle.axiom_model.specs.Failing.{Run}
-use Rattle.c_front.specs.declared.form.Form.{Form}
-use Rattle.c_front.specs.declared.form.FormCheck.{FormCheck}
+use Rattle.first_form.specs.declared.form.Form.{Form}
+use Rattle.first_form.specs.declared.form.FormCheck.{FormCheck}
 use Rattle.dg_top.specs.Runs.{ended, acting, checks_run, joins_run, creating, main_run}
 use Rattle.dg_top.proofs.Lists.{slice_get-append_right}
 use Rattle.dg_top.proofs.RunSteps.{option_map_some, CheckStep, check_step, JoinStep, join_step}

@@ -7,9 +7,9 @@ use Rattle.axiom_model.specs.declared.Candidate.{Candidate}
 use Rattle.axiom_model.specs.Execution.{actions_of}
 use Rattle.axiom_model.specs.Failing.{Run, thread_of, threads_of, execution_of}
 use Rattle.axiom_model.proofs.Threads.{actions_of-thread, threads_of-runs, part_of_run}
-use Rattle.c_front.specs.declared.form.Form.{Form}
-use Rattle.c_front.specs.declared.form.FormThread.{FormThread}
-use Rattle.c_front.specs.Form.{IsProgram}
+use Rattle.first_form.specs.declared.form.Form.{Form}
+use Rattle.first_form.specs.declared.form.FormThread.{FormThread}
+use Rattle.first_form.specs.Form.{IsProgram}
 use Rattle.dg_top.specs.Runs.{thread_run, main_run, run_of, form_runs, FormFails}
 use Rattle.dg_top.specs.Final.{Final}
 use Rattle.dg_top.proofs.Lists.{All-slice_get}

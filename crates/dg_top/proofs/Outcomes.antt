@@ -5,7 +5,7 @@ use Rattle.dg_base.specs.declared.outside.Trouble.TheVariants.{Failed, Long}
 use Rattle.dg_base.specs.Outside.{Changes, Fetches, Prints, Told, Unchanged, contents}
 use Rattle.dg_top.specs.declared.reply.Reply.{Reply}
 use Rattle.dg_top.specs.Answers as answers
-use Rattle.dg_top.specs.Answers.{Allowed, Answer, Appended, BadWords, IsStatus, LongFile, NotYet, Outcome, Safe, Unsafe, answered, bad_words, file_named, long_file, no_memory, status_of, text_of, unfetched, unprinted, verdict}
+use Rattle.dg_top.specs.Answers.{Allowed, Answer, Appended, BadWords, IsStatus, LongFile, NotYet, Outcome, Refused, Safe, Unsafe, answered, bad_words, file_named, long_file, no_memory, status_of, text_of, unfetched, unprinted, verdict}
 use Rattle.dg_top.specs.Replies.{Gives, Replies, Spells}
 
 pub told_map : {A : Type 0} (P Q : A → Type 0) (o : Option A) → ((x : A) → P x → Q x) → Told P o → Told Q o
@@ -34,6 +34,7 @@ pub status_small : (a : Answer) → status_of a < 5
 status_small Safe = omega arith
 status_small (Unsafe f c h at) = omega arith
 status_small BadWords = omega arith
+status_small (Refused e) = omega arith
 status_small NotYet = omega arith
 status_small (LongFile name) = omega arith
 
@@ -41,6 +42,7 @@ pub status_known : (a : Answer) → IsStatus (status_of a)
 status_known Safe = refl
 status_known (Unsafe f c h at) = refl
 status_known BadWords = refl
+status_known (Refused e) = refl
 status_known NotYet = refl
 status_known (LongFile name) = refl
 

@@ -4,7 +4,7 @@ use Rattle.std.specs.Prelude.{◌==◌, if◌then◌else◌}
 use Rattle.std.proofs.lemmas.Bool.{eqb-true, eqb-false}
 use Rattle.axiom_model.specs.declared.Action.TheVariants.{Read, Join}
 use Rattle.axiom_model.specs.Failing.{Run}
-use Rattle.c_front.specs.declared.form.FormCheck.{FormCheck}
+use Rattle.first_form.specs.declared.form.FormCheck.{FormCheck}
 use Rattle.dg_top.specs.Runs.{stopped, bad, failed, acting, taking, checks_run, joins_run}
 
 -- what maps to some value is some value

@@ -1,5 +1,5 @@
 -- What the search's tests say of a program: which assertion is the first of another value, and how a thread's writes end.
-use Rattle.std.proofs.Common.{◌≡◌, ℕ, zero, suc, ◌+◌, ◌-◌, ◌<◌, ◌≤◌, ◌⊎◌, List, [], ◌∷◌, ◌++◌, Bool, true, false, not, ◌&&◌, cond, Option, Some, None, refl, sym, ap, ◌∙◌, subst, ⊎_elim, arith, length, length-append, position, take, get_or, slice_get}
+use Rattle.std.proofs.Common.{◌≡◌, ℕ, zero, suc, ◌+◌, ◌-◌, ◌<◌, ◌≤◌, ◌⊎◌, List, [], ◌∷◌, ◌++◌, Bool, true, false, ◌&&◌, cond, Option, Some, None, refl, sym, ap, ◌∙◌, subst, ⊎_elim, arith, length, length-append, position, take, get_or, slice_get}
 use Rattle.std.specs.Prelude.{is_some, ◌==◌, nat_lt}
 use Rattle.std.specs.List.{list_all, position_or_len}
 use Rattle.std.proofs.lemmas.Bool.{cases_Bool, eqb-true, eqb-false, eq-eqb, ltb-false, not-true, not-false, and_parts, both_ways}
@@ -9,9 +9,9 @@ use Rattle.std.proofs.lemmas.List.Quantifiers.{position-Some}
 use Rattle.std.proofs.lemmas.Option.{slice_get-get_or, get_or_from_slice_get, slice_get_within, slice_get_past}
 use Rattle.axiom_model.specs.declared.Event.{Event}
 use Rattle.axiom_model.specs.declared.Event.TheVariants.{Initial, At}
-use Rattle.c_front.specs.declared.form.Form.{Form}
-use Rattle.c_front.specs.declared.form.FormCheck.{FormCheck}
-use Rattle.c_front.specs.Form.{IsProgram, function_writes}
+use Rattle.first_form.specs.declared.form.Form.{Form}
+use Rattle.first_form.specs.declared.form.FormCheck.{FormCheck}
+use Rattle.first_form.specs.Form.{IsProgram, function_writes}
 use Rattle.dg_top.specs.Final.{Final, initial, written, writes_of, created_writes}
 use Rattle.dg_top.specs.Search.{AllAgree, AllAssert, IsFailure, WriterAgrees, disagrees}
 use Rattle.dg_top.specs.declared.search.Failure.{Failure}

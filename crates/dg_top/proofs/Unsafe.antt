@@ -2,8 +2,8 @@
 use Rattle.std.proofs.Common.{◌≡◌, ◌++◌, arith, refl}
 use Rattle.axiom_model.specs.declared.Candidate.{Candidate}
 use Rattle.axiom_model.specs.Failing.{FailsFirst}
-use Rattle.c_front.specs.declared.form.Form.{Form}
-use Rattle.c_front.specs.Form.{IsProgram}
+use Rattle.first_form.specs.declared.form.Form.{Form}
+use Rattle.first_form.specs.Form.{IsProgram}
 use Rattle.dg_top.specs.declared.reply.Reply.{Reply}
 use Rattle.dg_top.specs.declared.search.Failure.{Failure}
 use Rattle.dg_top.specs.Answers.{Unsafe, cell_names, function_names, unsafe, unsafe_line}
@@ -36,8 +36,8 @@ main_fails_first f program x p =
     }
 
 pub unsafe_decides : (f : Form) → IsProgram f → (x : Failure) (p : IsFailure f x) (r : Reply) → r.status ≡ 1 → r.text.items ≡ unsafe_line 0 p.check.place ++ witness_text (function_names f) (cell_names f.cell) (shown f x) → Decides f r
-unsafe_decides f program x p r status spelled text form = record {
+unsafe_decides f is_program x p r status spelled text program accepted form = record {
   answer = Unsafe f (shown f x) 0 p.check.place;
-  allowed = unsafe f (shown f x) 0 p.check.place form (fails f program x p) (main_fails_first f program x p);
+  allowed = unsafe program f (shown f x) 0 p.check.place accepted form (fails f is_program x p) (main_fails_first f is_program x p);
   spelled = record { status = status; text = spelled };
 }

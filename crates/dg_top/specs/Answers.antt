@@ -2,13 +2,17 @@
 use Rattle.std.specs.Prelude.{◌≡◌, ℕ, ◌<◌, ◌≤◌, List, [], ◌∷◌, ◌++◌, Option, Some, None, if◌then◌else◌, ◌==◌, IsTrue, codes, bytes_eq, decimal, length, map, take}
 use Rattle.std.specs.List.{list_any}
 use Rattle.dg_base.specs.declared.Place.{Place}
+use Rattle.dg_base.specs.declared.refusal.Refusal.{Refusal}
 use Rattle.dg_base.specs.declared.outside.FileEntry.{FileEntry}
 use Rattle.dg_base.specs.declared.outside.TheConstants.{LONGEST_FILE}
 use Rattle.dg_base.specs.Outside.{Changes, Unchanged, contents}
 use Rattle.axiom_model.specs.declared.Candidate.{Candidate}
 use Rattle.axiom_model.specs.Failing.{FailsFirst}
-use Rattle.c_front.specs.declared.form.Form.{Form}
-use Rattle.c_front.specs.Grammar.{IsForm}
+use Rattle.c_tree.specs.declared.program.Program.{Program}
+use Rattle.first_form.specs.declared.form.Form.{Form}
+use Rattle.first_form.specs.Whole.{form_of}
+use Rattle.dg_top.specs.Accepting.{IsAccepted, IsRefused}
+use Rattle.dg_top.specs.Refusals.{place_text, refusal_text}
 use Rattle.dg_top.specs.Runs.{FormFails}
 use Rattle.dg_top.specs.Witness.{line_feed, witness_text}
 
@@ -25,17 +29,20 @@ pub data Answer : Type 0 where
   Unsafe : Form → Candidate → ℕ → Place → Answer
   -- the words are not those of a job
   BadWords : Answer
-  -- the text is not of the form
+  -- the text is refused
+  Refused : Refusal → Answer
+  -- the text is accepted, and its program is not of the first form
   NotYet : Answer
   -- the file of this name is too long
   LongFile : List ℕ → Answer
 
 -- the answers that a text allows
 pub data IsVerdict (text : List ℕ) : Answer → Type 0 where
-  not_yet : ((f : Form) → IsForm text f → ⊥) → IsVerdict text NotYet
-  safe : (f : Form) → IsForm text f → ((c : Candidate) → FormFails f c → ⊥) → IsVerdict text Safe
-  unsafe : (f : Form) (c : Candidate) (handle : ℕ) (at : Place) → IsForm text f → (x : FormFails f c) → FailsFirst c x.threads handle at
-      → IsVerdict text (Unsafe f c handle at)
+  refused : (e : Refusal) → IsRefused text e → IsVerdict text (Refused e)
+  not_yet : (program : Program) → IsAccepted text program → form_of program ≡ None → IsVerdict text NotYet
+  safe : (program : Program) (f : Form) → IsAccepted text program → form_of program ≡ Some f → ((c : Candidate) → FormFails f c → ⊥) → IsVerdict text Safe
+  unsafe : (program : Program) (f : Form) (c : Candidate) (handle : ℕ) (at : Place) → IsAccepted text program → form_of program ≡ Some f
+      → (x : FormFails f c) → FailsFirst c x.threads handle at → IsVerdict text (Unsafe f c handle at)
 
 -- the answers that words and files allow; an answer in the upper lines comes before those below it
 pub data Allowed (words : List (List ℕ)) (files : List FileEntry) : Answer → Type 0 where
@@ -48,6 +55,7 @@ abbrev pub status_of : Answer → ℕ
 status_of Safe = 0
 status_of (Unsafe f c handle at) = 1
 status_of BadWords = 3
+status_of (Refused e) = 4
 status_of NotYet = 4
 status_of (LongFile name) = 4
 
@@ -61,12 +69,13 @@ cell_names (Some name) = name ∷ []
 
 -- `UNSAFE thread H at L:C`
 abbrev pub unsafe_line : ℕ → Place → List ℕ
-unsafe_line handle at = codes "UNSAFE thread " ++ decimal handle ++ codes " at " ++ decimal at.line ++ codes ":" ++ decimal at.col ++ line_feed
+unsafe_line handle at = codes "UNSAFE thread " ++ decimal handle ++ codes " at " ++ place_text at ++ line_feed
 
 abbrev pub text_of : Answer → List ℕ
 text_of Safe = codes "SAFE" ++ line_feed
 text_of (Unsafe f c handle at) = unsafe_line handle at ++ witness_text (function_names f) (cell_names f.cell) c
 text_of BadWords = codes "words Form" ++ line_feed
+text_of (Refused e) = codes "refused " ++ refusal_text e ++ line_feed
 text_of NotYet = codes "refused E0 NotYet" ++ line_feed
 text_of (LongFile name) = codes "refused Long " ++ name ++ line_feed
 

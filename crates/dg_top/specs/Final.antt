@@ -5,8 +5,8 @@ use Rattle.axiom_model.specs.declared.Event.TheVariants.{Initial, At}
 use Rattle.axiom_model.specs.declared.RfPair.{RfPair}
 use Rattle.axiom_model.specs.declared.ThreadPart.{ThreadPart}
 use Rattle.axiom_model.specs.declared.Candidate.{Candidate}
-use Rattle.c_front.specs.declared.form.Form.{Form}
-use Rattle.c_front.specs.Form.{function_writes}
+use Rattle.first_form.specs.declared.form.Form.{Form}
+use Rattle.first_form.specs.Form.{function_writes}
 
 -- the numbers that a created thread writes, if there is one
 abbrev pub created_writes : Form → Option ℕ → List ℕ

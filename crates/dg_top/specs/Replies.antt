@@ -3,9 +3,11 @@ use Rattle.std.specs.Prelude.{◌≡◌, ℕ, List, Option, Some}
 use Rattle.dg_base.specs.declared.outside.FileEntry.{FileEntry}
 use Rattle.dg_base.specs.declared.outside.Errand.TheVariants.{Fetch}
 use Rattle.dg_base.specs.Outside.{Faults, IsFault, Told}
-use Rattle.c_front.specs.declared.form.Form.{Form}
-use Rattle.c_front.specs.Grammar.{IsForm}
+use Rattle.c_tree.specs.declared.program.Program.{Program}
+use Rattle.first_form.specs.declared.form.Form.{Form}
+use Rattle.first_form.specs.Whole.{form_of}
 use Rattle.dg_top.specs.declared.reply.Reply.{Reply}
+use Rattle.dg_top.specs.Accepting.{IsAccepted}
 use Rattle.dg_top.specs.Answers.{Allowed, Answer, IsVerdict, file_named, status_of, text_of}
 
 -- the reply is this answer
@@ -19,9 +21,13 @@ pub record Gives (text : List ℕ) (r : Reply) : Type 0 where
   pub allowed : IsVerdict text answer
   pub spelled : Spells answer r
 
--- the reply is an answer that each text of this form allows
+-- the reply is an answer that each text of a program of this form allows
 abbrev pub Decides : Form → Reply → Type 0
-Decides f r = (text : List ℕ) → IsForm text f → Gives text r
+Decides f r = (text : List ℕ) (program : Program) → IsAccepted text program → form_of program ≡ Some f → Gives text r
+
+-- the reply is an answer that each text of this program allows
+abbrev pub Answers : Program → Reply → Type 0
+Answers program r = (text : List ℕ) → IsAccepted text program → Gives text r
 
 -- the reply is an answer, one that these words and files allow where the files are told
 pub record Replies (words : List (List ℕ)) (files : Option (List FileEntry)) (r : Reply) : Type 0 where

@@ -7,9 +7,9 @@ use Rattle.axiom_model.specs.declared.MemoryModel.TheVariants.{Sc}
 use Rattle.axiom_model.specs.declared.Candidate.{Candidate}
 use Rattle.axiom_model.specs.WellMade.{Shape}
 use Rattle.axiom_model.specs.Failing.{Run, Runs, FailingExecution}
-use Rattle.c_front.specs.declared.form.Form.{Form}
-use Rattle.c_front.specs.declared.form.FormThread.{FormThread}
-use Rattle.c_front.specs.declared.form.FormCheck.{FormCheck}
+use Rattle.first_form.specs.declared.form.Form.{Form}
+use Rattle.first_form.specs.declared.form.FormThread.{FormThread}
+use Rattle.first_form.specs.declared.form.FormCheck.{FormCheck}
 
 -- a run without further actions that came to its end, that stopped, that made a choice that no execution makes, or that failed
 abbrev pub ended : Run

@@ -1,8 +1,8 @@
 -- What the search for a failing execution finds.
 use Rattle.std.specs.Prelude.{◌≡◌, ◌≢◌, ◌==◌, ℕ, ◌<◌, Bool, not, List, [], ◌∷◌, ◌++◌, Some, slice_get, All}
 use Rattle.axiom_model.specs.declared.Event.{Event}
-use Rattle.c_front.specs.declared.form.Form.{Form}
-use Rattle.c_front.specs.declared.form.FormCheck.{FormCheck}
+use Rattle.first_form.specs.declared.form.Form.{Form}
+use Rattle.first_form.specs.declared.form.FormCheck.{FormCheck}
 use Rattle.dg_top.specs.Final.{Final, writes_of}
 use Rattle.dg_top.specs.declared.search.Failure.{Failure}
 

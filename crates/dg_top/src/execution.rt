@@ -1,14 +1,14 @@
 // The execution that shows a failure: the failing writer's thread comes last, main goes on at each
 // join, and reads the final value at each assertion up to the failing one.
 ghost use Rattle.std.specs.Prelude.{◌≡◌, ◌<◌, ◌+◌, ◌^◌, ◌∷◌, ◌++◌, [], if◌then◌else◌, IfOk, OnOk, length, replicate};
-ghost use Rattle.c_front.specs.Form.{IsProgram};
+ghost use Rattle.first_form.specs.Form.{IsProgram};
 ghost use Rattle.dg_top.specs.Final.{events_from, execution_with, is_by, main_part, other_writes, own_writes, parts_from, reads_from, write_events, write_order, writes_of};
 ghost use Rattle.dg_top.specs.Search.{IsFailure};
 
 use crate::search::{Failure, written_by};
 use axiom_model::{Candidate, Event, RfPair, ThreadPart};
-use c_front::Form;
 use dg_base::{List, OutOfMemory};
+use first_form::Form;
 use std::alloc::Global;
 
 fn main_script(

@@ -1,18 +1,18 @@
 // The answers as status and text.
-ghost use Rattle.std.specs.Prelude.{◌≡◌, ◌<◌, ◌+◌, IfOk, OnOk, ◌++◌, length};
-ghost use Rattle.axiom_model.specs.Failing.{FailsFirst};
-ghost use Rattle.c_front.specs.declared.form.Form.{Form};
-ghost use Rattle.c_front.specs.Form.{IsProgram};
-ghost use Rattle.c_front.specs.Grammar.{IsForm};
-ghost use Rattle.dg_top.specs.Answers.{Answer, BadWords, LongFile, NotYet, unsafe_line};
-ghost use Rattle.dg_top.specs.Replies.{Decides, Gives, Spells};
+ghost use Rattle.std.specs.Prelude.{◌≡◌, ◌≢◌, ◌↔◌, IfOk, IsTrue, OnOk, ◌++◌};
+ghost use Rattle.first_form.specs.Form.{IsProgram};
+ghost use Rattle.dg_top.specs.Answers.{Answer, BadWords, LongFile, NotYet, Refused, unsafe_line};
+ghost use Rattle.dg_top.specs.Replies.{Answers, Decides, Gives, Spells};
 ghost use Rattle.dg_top.specs.Search.{IsFailure};
 
+use crate::accepting::accept;
 use crate::execution::execution;
+use crate::refusals::{put_place, put_refusal};
 use crate::search::{Failure, search};
 use crate::witness::{put, put_number, put_witness};
-use c_front::{Form, FormFault, read_form};
-use dg_base::{OutOfMemory, Place};
+use c_tree::Program;
+use dg_base::{OutOfMemory, Place, Refusal};
+use first_form::{Form, form_of};
 use std::alloc::Global;
 
 /// An answer: the status of the process, and the bytes that are printed.
@@ -40,6 +40,15 @@ pub fn long_file(alloc: Global, name: &str) -> Result<Reply, OutOfMemory>
     Ok(Reply { status: 4, text })
 }
 
+fn refused(alloc: Global, refusal: &Refusal) -> Result<Reply, OutOfMemory>
+    ensures { IfOk result (Spells (Refused refusal.now)) }
+{
+    let mut text = Vec::from_slice(alloc, b"refused ")?;
+    put_refusal(&mut text, refusal)?;
+    put(&mut text, b"\n")?;
+    Ok(Reply { status: 4, text })
+}
+
 fn not_yet(alloc: Global) -> Result<Reply, OutOfMemory>
     ensures { IfOk result (Spells NotYet) }
 {
@@ -60,9 +69,7 @@ fn put_unsafe_line(out: &mut Vec<u8>, handle: u32, at: Place) -> Result<(), OutO
     put(out, b"UNSAFE thread ")?;
     put_number(out, handle)?;
     put(out, b" at ")?;
-    put_number(out, at.line)?;
-    put(out, b":")?;
-    put_number(out, at.col)?;
+    put_place(out, at)?;
     put(out, b"\n")
 }
 
@@ -90,13 +97,51 @@ fn decide(alloc: Global, form: &Form) -> Result<Reply, OutOfMemory>
     }
 }
 
-/// What the text allows: not of the form, safe, or unsafe with its witness.
+// Decides a program: not of the first form, safe, or unsafe with its witness.
+fn decide_program(alloc: Global, program: &Program) -> Result<Reply, OutOfMemory>
+    ensures { IfOk result (Answers program.now) }
+{
+    match form_of(alloc, program)? {
+        Some(form) => decide(alloc, &form),
+        None => not_yet(alloc),
+    }
+}
+
+// Whether the refusal is want of memory.
+fn lacks_memory(refusal: &Refusal) -> bool
+    ensures { IsTrue result ↔ (refusal.now ≡ Refusal.OutOfMemory) }
+{
+    match refusal {
+        Refusal::BadByte(_) => false,
+        Refusal::Unsupported(_, _) => false,
+        Refusal::Syntax(_) => false,
+        Refusal::NoMain => false,
+        Refusal::Duplicate(_) => false,
+        Refusal::Unknown(_) => false,
+        Refusal::BadType(_) => false,
+        Refusal::UnmatchedAtomic(_) => false,
+        Refusal::Recursion(_) => false,
+        Refusal::Limit(_, _) => false,
+        Refusal::OutOfMemory => true,
+    }
+}
+
+// The text is refused, unless memory is out.
+fn refuse(alloc: Global, refusal: &Refusal) -> Result<Reply, OutOfMemory>
+    ensures { IfOk result (λ r. Spells (Refused refusal.now) r × (refusal.now ≢ Refusal.OutOfMemory)) }
+{
+    if lacks_memory(refusal) {
+        return Err(OutOfMemory);
+    }
+    refused(alloc, refusal)
+}
+
+/// What the text allows: its first refusal, not of the first form, safe, or unsafe with its witness.
 pub fn verdict(alloc: Global, text: &[u8]) -> Result<Reply, OutOfMemory>
     ensures { IfOk result (Gives text.now) }
 {
-    match read_form(alloc, text) {
-        Ok(form) => decide(alloc, &form),
-        Err(FormFault::NotYet) => not_yet(alloc),
-        Err(FormFault::OutOfMemory) => Err(OutOfMemory),
+    match accept(alloc, text) {
+        Ok(checked) => decide_program(alloc, &checked.program),
+        Err(refusal) => refuse(alloc, &refusal),
     }
 }

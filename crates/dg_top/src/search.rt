@@ -3,12 +3,12 @@
 // last write that is; where none writes, the cell keeps its initial value.
 ghost use Rattle.std.specs.Prelude.{◌≡◌, ◌<◌, ◌+◌, ◌-◌, ◌==◌, ◌∷◌, ◌++◌, [], ℕ, IfSome, None, Some, length, position, slice_get, take};
 ghost use Rattle.std.specs.List.{list_all};
-ghost use Rattle.c_front.specs.Form.{IsProgram, function_writes};
+ghost use Rattle.first_form.specs.Form.{IsProgram, function_writes};
 ghost use Rattle.dg_top.specs.Final.{writes_of};
 ghost use Rattle.dg_top.specs.Search.{AllAgree, AllAssert, IsFailure, WriterAgrees, disagrees};
 
 use axiom_model::Event;
-use c_front::{Form, FormCheck};
+use first_form::{Form, FormCheck};
 
 /// How a program fails: after this event the cell is not written any more and has this value, and
 /// the assertion with this number, from 0, is the first that asserts another.

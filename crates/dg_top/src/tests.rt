@@ -110,6 +110,35 @@ end
 "
 }
 
+// The first row with comments, a directive, blanks, a hexadecimal number and words that say nothing.
+fn commented() -> &'static str {
+    "#include <pthread.h>
+#define ONE 0x1
+/* the cell */ volatile int\tx ;
+void*a(void*p){x=ONE;return NULL;} // writes 1
+void *b ( void *p ) { x = 2 ; return 0 ; }
+int main(void)
+{ pthread_t s ,t;
+  pthread_create(&s, NULL, a, NULL); pthread_create(&t, 0, b, 0);
+  pthread_join(s, NULL); pthread_join(t, 0);
+  /* fails */ assert(x==01); return 0; }"
+}
+
+fn commented_answer() -> &'static str {
+    "UNSAFE thread 0 at 10:15
+deagle-witness 1
+thread 0 main 0
+script 1 1 2
+thread 1 a 0
+script
+thread 2 b 0
+script
+rf 0.5 2.1
+co x init 1.1 2.1
+end
+"
+}
+
 fn verify<R: Threads + Sync + AllocGlobal>(
     rt: &R,
     desk: &mut MemDesk,
@@ -149,12 +178,79 @@ fn rows_on_texts(rt: HostRuntime) -> Result<(), Fail> {
         (same(), 0, "SAFE\n"),
         (initial(), 1, initial_answer()),
         (first_last(), 1, first_last_answer()),
+        (commented(), 1, commented_answer()),
         ("int main() { return 0; }", 0, "SAFE\n"),
         ("int main() { return 1; }", 4, "refused E0 NotYet\n"),
     ];
     for (text, status, printed) in rows {
         assert!(rt; answers(&rt, text, status, printed)?);
     }
+    Ok(())
+}
+
+#[test]
+fn rows_on_refusals(rt: HostRuntime) -> Result<(), Fail> {
+    let rows = [
+        ("int @;", "refused E1 BadByte 1:5\n"),
+        ("int main(){goto a;}", "refused E2 Unsupported 1:12 goto\n"),
+        ("int main(){return 0;", "refused E3 Syntax 1:21\n"),
+        ("", "refused E4 NoMain\n"),
+        (
+            "int x;int x;int main(){return 0;}",
+            "refused E5 Duplicate 1:11\n",
+        ),
+        ("int main(){x=1;}", "refused E6 Unknown 1:12\n"),
+        ("int x;int main(){return main;}", "refused E7 Type 1:25\n"),
+        (
+            "int main(){\n  __VERIFIER_atomic_begin();}",
+            "refused E8 UnmatchedAtomic 2:3\n",
+        ),
+        (
+            "void *f(void *p){pthread_t t;pthread_create(&t,0,f,0);return 0;}int main(){return 0;}",
+            "refused E9 Recursion 1:7\n",
+        ),
+        (
+            "int a[33];int main(){return 0;}",
+            "refused E10 Limit cells 33\n",
+        ),
+    ];
+    for (text, printed) in rows {
+        assert!(rt; answers(&rt, text, 4, printed)?);
+    }
+    Ok(())
+}
+
+// Main writes to a cell of an array so often, and then does this.
+fn with_writes(alloc: Global, count: u32, last: &str) -> Result<String, Fail> {
+    let mut text = String::from_str(alloc, "int a[32]; int x; int main() {")?;
+    for _ in 0..count {
+        text.push_str(" a[0] = 1;")?;
+    }
+    text.push_str(last)?;
+    text.push_str(" return 0; }")?;
+    Ok(text)
+}
+
+#[test]
+fn rows_on_limits(rt: HostRuntime) -> Result<(), Fail> {
+    let many = with_writes(rt.alloc(), 32, "")?;
+    assert!(rt; answers(&rt, many.as_str(), 4, "refused E0 NotYet\n")?);
+    let too_many = with_writes(rt.alloc(), 32, " x = 1;")?;
+    assert!(rt;
+        answers(
+            &rt,
+            too_many.as_str(),
+            4,
+            "refused E10 Limit accesses 1025\n"
+        )?
+    );
+    let length: usize = "1048577".parse()?;
+    let mut long = Vec::new(rt.alloc());
+    long.resize(length, 32u8)?;
+    let mut desk = MemDesk::new(rt.alloc())?;
+    desk.put("long.c", long.as_slice())?;
+    assert_eq!(rt; verify(&rt, &mut desk, &["deagle", "verify", "long.c"])?, 4);
+    assert!(rt; desk.printed() == b"refused E10 Limit text 1048577\n".as_slice());
     Ok(())
 }
 

@@ -4,8 +4,8 @@ ghost use Rattle.dg_top.specs.Answers.{cell_names, function_names};
 ghost use Rattle.dg_top.specs.Witness.{co_lines, event_text, events_text, line_feed, name_at, numbers_text, rf_line, thread_lines, witness_text};
 
 use axiom_model::{Candidate, Event, RfPair, ThreadPart};
-use c_front::Form;
 use dg_base::{List, OutOfMemory};
+use first_form::Form;
 use itoa::Buffer;
 
 // Appends the bytes.

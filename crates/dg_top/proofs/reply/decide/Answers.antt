@@ -9,8 +9,8 @@ use Rattle.dg_top.proofs.reply.decide.Goals as goal
 pub returns-in-None : goal.returns-in-None
 returns-in-None c =
     let f = c.args.form.now in
-    if_ok c.safe.result (Spells Safe) (Decides f) (λ r spelled. λ text form. record {
+    if_ok c.safe.result (Spells Safe) (Decides f) (λ r spelled. λ text program accepted form. record {
       answer = Safe;
-      allowed = safe f form (none_fails f c.requires (c.in-None.ensures.none refl));
+      allowed = safe program f accepted form (none_fails f c.requires (c.in-None.ensures.none refl));
       spelled = spelled;
     }) c.safe.ensures

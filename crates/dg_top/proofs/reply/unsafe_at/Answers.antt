@@ -1,7 +1,7 @@
 -- The text is the line of the failing assertion and the witness of the execution.
 use Rattle.std.proofs.Common.{◌≡◌, ◌++◌, ap, ◌∙◌, refl, get_or}
 use Rattle.std.proofs.lemmas.Option.{get_or_from_slice_get}
-use Rattle.c_front.specs.declared.form.FormCheck.{FormCheck}
+use Rattle.first_form.specs.declared.form.FormCheck.{FormCheck}
 use Rattle.dg_top.specs.Answers.{unsafe_line, function_names, cell_names}
 use Rattle.dg_top.specs.Witness.{witness_text}
 use Rattle.dg_top.proofs.Unsafe.{unsafe_decides}

@@ -1,7 +1,7 @@
 -- The thread's last write is a final event, and the assertion that was found is the first of another value.
 use Rattle.std.proofs.Common.{◌≡◌, ◌+◌, ◌≤◌, ◌<◌, [], ◌∷◌, ◌++◌, Some, None, arith, length, position, refl, sym, take, ◌-◌, ap, ◌∙◌}
 use Rattle.axiom_model.specs.declared.Event.TheVariants.{At}
-use Rattle.c_front.specs.Form.{function_writes}
+use Rattle.first_form.specs.Form.{function_writes}
 use Rattle.dg_top.specs.Final.{Final}
 use Rattle.dg_top.specs.Search.{disagrees}
 use Rattle.dg_top.proofs.Searching.{all_assert, few_created, few_written, final_written, first_found, writer_agrees}

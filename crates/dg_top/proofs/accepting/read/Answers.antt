@@ -1,0 +1,16 @@
+use Rattle.std.proofs.Common.{◌≢◌}
+use Rattle.dg_base.specs.declared.refusal.Refusal.TheVariants.{OutOfMemory}
+use Rattle.c_stmt.specs.Programs.{HasCause}
+use Rattle.c_token.specs.Tokens.{answer}
+use Rattle.dg_top.specs.Accepting.{IsRefused, no_tokens}
+use Rattle.dg_top.proofs.Refusing.{if_err, lexed, unlexed, unread}
+use Rattle.dg_top.proofs.accepting.read.Goals as goal
+
+pub returns-in-Ok-clause-refused : goal.returns-in-Ok-clause-refused
+returns-in-Ok-clause-refused c =
+    let text = c.args.text.now in
+    let tokens = c.in-Ok.tokens in
+    if_err c.parse.result (HasCause tokens) (λ e. e ≢ OutOfMemory → IsRefused text e) (unread text tokens (lexed c.tokens.result (answer text) tokens c.tokens.ensures c.in-Ok.is)) c.parse.ensures.refused
+
+pub returns-in-Err-clause-refused : goal.returns-in-Err-clause-refused
+returns-in-Err-clause-refused c = λ n. let h = c.in-Err in no_tokens c.in-Err.refusal (unlexed c.tokens.result (answer c.args.text.now) c.in-Err.refusal c.tokens.ensures c.in-Err.is n)

@@ -1,0 +1,6 @@
+mod Distinct
+pub mod Reading
+mod Differ
+mod Parts
+mod Numbers
+pub mod Programs

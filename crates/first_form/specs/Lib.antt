@@ -1,0 +1,4 @@
+pub mod Form
+pub mod Reserved
+pub mod Trees
+pub mod Whole

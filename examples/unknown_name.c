@@ -1,0 +1,4 @@
+int main() {
+  x = 1;
+  return 0;
+}
