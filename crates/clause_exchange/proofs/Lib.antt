@@ -15,4 +15,4 @@ pub mod ClosingLaws
 pub mod Tying
 pub mod Seating
 pub mod NewSeats
-pub mod TwoSeats
+pub mod Readiness

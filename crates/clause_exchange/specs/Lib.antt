@@ -8,3 +8,4 @@ pub mod Counting
 pub mod Seats
 pub mod Calls
 pub mod ExchangeLaws
+pub mod Ready

@@ -31,7 +31,7 @@ use std::marker::Model;
 /// thread. An exchange is seen as its table, its problem and its sizes.
 #[derive(Drop)]
 pub struct Exchange<'a> {
-    board: Board<'a>,
+    pub(crate) board: Board<'a>,
 }
 
 impl<'a> Model for Exchange<'a> {

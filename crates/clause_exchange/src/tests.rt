@@ -1,9 +1,17 @@
 ghost use Rattle.std.specs.Prelude.{◌≡◌, [], ◌∷◌, IfOk};
+ghost use Rattle.cnf_problem.specs.Problems.{Follows};
+ghost use Rattle.clause_exchange.specs.Plays.{mine};
+ghost use Rattle.clause_exchange.specs.Seats.{exchange_of};
+ghost use Rattle.clause_exchange.specs.Calls.{HasOne, IsOther};
+ghost use Rattle.clause_exchange.specs.Ready.{IsReady, GoesOn};
 ghost use Rattle.cnf_problem.specs.Formulas.{true_lit};
 ghost use Rattle.cnf_problem.specs.declared.problem.LemmaKind.TheVariants.{Unit};
 
+mod rows;
+mod threads;
+
 use crate::spelling::{head_word, pair_word};
-use crate::{Exchange, Shared};
+use crate::{Exchange, Seat, Shared};
 use cnf_problem::{Gates, Lemma, LemmaKind, Problem};
 use dg_base::{List, Lit, OutOfMemory};
 use lemma_log::Entry;
@@ -38,6 +46,58 @@ fn one_lemma(alloc: Global) -> Result<Lemma, OutOfMemory>
     })
 }
 
+// Appends a lemma and shares its entry. Answers its ticket, and whether it was shared.
+fn append_and_share(exchange: &Exchange, seat: &mut Seat, worker: u32, lemma: Lemma) -> (u32, bool)
+    requires same { exchange_of seat.old ≡ exchange.now }
+    requires ready { IsReady seat.old.view 1 }
+    requires follows { Follows seat.old.view.problem [] lemma }
+    ensures same { exchange_of seat.new ≡ exchange_of seat.old }
+    ensures on { GoesOn seat.old.view seat.new.view }
+{
+    let ticket = exchange.append(seat, &lemma);
+    let entry = Entry {
+        ticket,
+        worker,
+        lemma,
+    };
+    let shared = exchange.share(seat, &entry);
+    (ticket, shared)
+}
+
+// Looks at another number's row.
+fn look_at(exchange: &Exchange, seat: &mut Seat, row: u32) -> u32
+    requires same { exchange_of seat.old ≡ exchange.now }
+    requires one { HasOne seat.old.view }
+    requires row { IsOther seat.old.view row }
+    ensures same { exchange_of seat.new ≡ exchange_of seat.old }
+    ensures one { HasOne seat.new.view }
+    ensures number { (mine seat.new.view).number ≡ (mine seat.old.view).number }
+{
+    exchange.look(seat, row)
+}
+
+// The next entry of another number's row.
+fn read_next(exchange: &Exchange, seat: &mut Seat, row: u32) -> Option<Shared>
+    requires same { exchange_of seat.old ≡ exchange.now }
+    requires one { HasOne seat.old.view }
+    requires row { IsOther seat.old.view row }
+    ensures same { exchange_of seat.new ≡ exchange_of seat.old }
+    ensures one { HasOne seat.new.view }
+    ensures number { (mine seat.new.view).number ≡ (mine seat.old.view).number }
+{
+    let mut into = Shared {
+        ticket: 0,
+        worker: 0,
+        len: 0,
+        lits: [Lit(0); 32],
+    };
+    if exchange.read(seat, row, &mut into) {
+        Some(into)
+    } else {
+        None
+    }
+}
+
 fn is_shared<T: Send + Sync>(_: &T) {}
 
 fn is_moved<T: Send>(_: &T) {}
@@ -54,51 +114,26 @@ fn sixteen_workers_with_rows_of_no_words(rt: HostRuntime) -> Result<(), Fail> {
     Ok(())
 }
 
+// Number 1 appends and shares between two splits, and has its row's words after all joins.
 #[test]
 fn three_splits_and_joins_in_another_order(rt: HostRuntime) -> Result<(), Fail> {
     let problem = small_problem(rt.alloc())?;
+    let lemma = one_lemma(rt.alloc())?;
     let (exchange, mut zero) = Exchange::new(rt.alloc(), &problem, 4, 64)?;
     let mut two = exchange.split(&mut zero, 2);
-    let one = exchange.split(&mut zero, 1);
+    let mut one = exchange.split(&mut zero, 1);
+    let (ticket, shared) = append_and_share(&exchange, &mut one, 1, lemma);
     let mut three = exchange.split(&mut two, 3);
     let least = [zero.number, one.number, two.number, three.number];
     exchange.join(&mut three, zero);
     exchange.join(&mut three, two);
     exchange.join(&mut three, one);
+    let written = three.counters.written;
     let (next, verdict) = exchange.close(three);
+    assert_eq!(rt; (ticket, shared), (0, true));
     assert_eq!(rt; least, [0, 1, 2, 3]);
-    assert_eq!(rt; next, 0);
+    assert!(rt; written.starts_with(&[0, 2, 0, 0]));
+    assert_eq!(rt; next, 1);
     assert!(rt; verdict.is_none());
-    Ok(())
-}
-
-// One worker shares an entry, and the other reads it.
-#[test]
-fn an_entry_is_shared_and_read(rt: HostRuntime) -> Result<(), Fail> {
-    let problem = small_problem(rt.alloc())?;
-    let (exchange, mut zero) = Exchange::new(rt.alloc(), &problem, 2, 2)?;
-    let mut one = exchange.split(&mut zero, 1);
-    let lemma = one_lemma(rt.alloc())?;
-    let ticket = exchange.append(&mut zero, &lemma);
-    let entry = Entry {
-        ticket,
-        worker: 0,
-        lemma,
-    };
-    let shared = exchange.share(&mut zero, &entry);
-    let again = exchange.share(&mut zero, &entry);
-    let mut into = Shared {
-        ticket: 9,
-        worker: 9,
-        len: 0,
-        lits: [Lit(0); 32],
-    };
-    let words = exchange.look(&mut one, 0);
-    let read = exchange.read(&mut one, 0, &mut into);
-    let more = exchange.read(&mut one, 0, &mut into);
-    assert_eq!(rt; (ticket, shared, again), (0, true, false));
-    assert_eq!(rt; (words, read, more), (2, true, false));
-    assert_eq!(rt; (into.ticket, into.worker, into.len), (0, 0, 1));
-    assert_eq!(rt; into.lits[0], Lit(2));
     Ok(())
 }
