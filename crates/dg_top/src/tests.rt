@@ -5,6 +5,8 @@ use std::alloc::Global;
 use std::test::Fail;
 use std::thread::Threads;
 
+mod programs;
+
 fn row_1() -> &'static str {
     "int x;
 void *a(void *p) { x = 1; return 0; }
@@ -251,6 +253,44 @@ fn rows_on_limits(rt: HostRuntime) -> Result<(), Fail> {
     desk.put("long.c", long.as_slice())?;
     assert_eq!(rt; verify(&rt, &mut desk, &["deagle", "verify", "long.c"])?, 4);
     assert!(rt; desk.printed() == b"refused E10 Limit text 1048577\n".as_slice());
+    Ok(())
+}
+
+// So many shared cells, in arrays of 32, and then this.
+fn with_cells(alloc: Global, arrays: u32, last: &str) -> Result<String, Fail> {
+    let mut text = String::from_str(alloc, "int main() { return 0; } int x0")?;
+    for i in 1..arrays {
+        text.push_str(", a")?;
+        for _ in 0..i {
+            text.push_str("a")?;
+        }
+        text.push_str("[32]")?;
+    }
+    text.push_str(last)?;
+    Ok(text)
+}
+
+#[test]
+fn rows_on_checked_programs(rt: HostRuntime) -> Result<(), Fail> {
+    for text in [
+        programs::fibonacci(),
+        programs::counting(),
+        programs::counting_in_loops(),
+        programs::own_assertions(),
+    ] {
+        assert!(rt; answers(&rt, text, 4, "refused E0 NotYet\n")?);
+    }
+    let most = with_cells(rt.alloc(), 32, ", y[31];")?;
+    assert!(rt; answers(&rt, most.as_str(), 4, "refused E0 NotYet\n")?);
+    let too_many = with_cells(rt.alloc(), 32, ", y[32];")?;
+    assert!(rt;
+        answers(
+            &rt,
+            too_many.as_str(),
+            4,
+            "refused E10 Limit globals 1025\n"
+        )?
+    );
     Ok(())
 }
 
