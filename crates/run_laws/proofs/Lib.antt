@@ -1,0 +1,11 @@
+pub mod Growing
+pub mod Routines
+pub mod Meanings
+pub mod Expressions
+pub mod Loops
+pub mod Bodies
+pub mod FunctionCounts
+pub mod Threads
+pub mod Steady
+pub mod Mains
+pub mod Reached

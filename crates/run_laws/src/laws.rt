@@ -1,0 +1,23 @@
+// What holds of every well made candidate of a checked program.
+ghost use Rattle.std.specs.Prelude.{◌≡◌, List};
+ghost use Rattle.std.specs.List.{AllZip};
+ghost use Rattle.axiom_model.specs.declared.Candidate.{Candidate};
+ghost use Rattle.axiom_model.specs.WellMade.{WellMade};
+ghost use Rattle.axiom_model.specs.Failing.{Run, RunsTo, execution_of};
+ghost use Rattle.c_check.specs.declared.checked.Checked.{Checked};
+ghost use Rattle.c_check.specs.WellFormed.{IsChecked};
+ghost use Rattle.run_model.specs.Programs.{shape_of};
+ghost use Rattle.run_model.specs.Threads.{thread_run};
+ghost use Rattle.run_model.specs.Laws.{CreatesFew, CreatesOnce};
+
+/// Each thread of a well made candidate of a checked program creates at most 63 threads.
+pub fn creates_are_few()
+    ensures { (p : Checked) (c : Candidate) (rs : List Run) → IsChecked p
+        → AllZip (RunsTo (thread_run p)) c.threads rs → WellMade (shape_of p.program) (execution_of c rs) → CreatesFew rs }
+{}
+
+/// No two creates of a well made candidate of a checked program have one handle.
+pub fn creates_differ()
+    ensures { (p : Checked) (c : Candidate) (rs : List Run) → IsChecked p
+        → AllZip (RunsTo (thread_run p)) c.threads rs → WellMade (shape_of p.program) (execution_of c rs) → CreatesOnce (execution_of c rs) }
+{}

@@ -1,0 +1,13 @@
+pub mod Passing
+pub mod Turns
+pub mod Calling
+pub mod Telling
+pub mod Kept
+pub mod KeptMeaning
+pub mod KeptThread
+pub mod Scripts
+pub mod Handles
+pub mod Creates
+pub mod Agreeing
+pub mod AgreeingBodies
+pub mod Fuel

@@ -1,0 +1,10 @@
+pub mod Steps
+pub mod Names
+pub mod Cells
+pub mod Calls
+pub mod Meaning
+pub mod Statements
+pub mod Programs
+pub mod Threads
+pub mod Running
+pub mod Laws
