@@ -1,0 +1,12 @@
+pub mod Listed
+pub mod Shaped
+pub mod Parts
+pub mod Ran
+pub mod Events
+pub mod Happened
+pub mod Acting
+pub mod Sourced
+pub mod Ordered
+pub mod Whole
+pub mod Excluding
+pub mod Stages

@@ -1,0 +1,7 @@
+use Rattle.std.proofs.Common.{◌≡◌, drop}
+use Rattle.std.specs.List.{list_any}
+use Rattle.exec_check.specs.ActionTests as tests
+use Rattle.exec_check.proofs.creates.has_handle.Given as goal
+
+abbrev pub invariant-loop-thread : goal.invariant-loop-thread
+invariant-loop-thread l = list_any (tests.has_handle l.handle) (drop l.thread-index l.threads) ≡ list_any (tests.has_handle l.handle) l.threads

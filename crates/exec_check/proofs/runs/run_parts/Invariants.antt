@@ -1,0 +1,12 @@
+use Rattle.std.proofs.Common.{◌≡◌, ◌++◌, map, drop}
+use Rattle.c_rules.specs.Names.{or_else}
+use Rattle.consistency.specs.Seen.{thread_seen}
+use Rattle.exec_check.specs.ThreadTests as tests
+use Rattle.exec_check.proofs.runs.run_parts.Given as goal
+
+abbrev pub invariant-loop-part : goal.invariant-loop-part
+invariant-loop-part l = record {
+  wrong : tests.first_wrong l.checked (drop l.part-index l.parts) ≡ tests.first_wrong l.checked l.parts;
+  seen : map thread_seen l.threads ++ map (tests.seen_by l.checked) (drop l.part-index l.parts) ≡ map (tests.seen_by l.checked) l.parts;
+  failing : or_else l.first (tests.first_failing l.checked (drop l.part-index l.parts)) ≡ tests.first_failing l.checked l.parts;
+}

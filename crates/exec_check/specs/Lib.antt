@@ -1,0 +1,7 @@
+pub mod First
+pub mod Running
+pub mod Conditions
+pub mod Broken
+pub mod ThreadTests
+pub mod Happenings
+pub mod ActionTests

@@ -1,0 +1,155 @@
+//! The runs of a candidate's threads.
+
+ghost use Rattle.std.specs.Prelude.{◌≡◌, ◌⊎◌, map, length, Some, None, IfOk, IfErr, OnOk};
+ghost use Rattle.axiom_model.specs.declared.MemoryModel.{MemoryModel};
+ghost use Rattle.axiom_model.specs.Failing.{thread_of};
+ghost use Rattle.c_rules.specs.Names.{or_else};
+ghost use Rattle.consistency.specs.Seen.{thread_seen, execution_seen};
+ghost use Rattle.run_model.specs.Threads as endings;
+ghost use Rattle.run_model.specs.Running.{run_of};
+ghost use Rattle.exec_check.specs.declared.Reject.TheVariants as reject;
+ghost use Rattle.exec_check.specs.First.{EachThread};
+ghost use Rattle.exec_check.specs.Running.{run_told, execution_in, shape};
+ghost use Rattle.exec_check.specs.Conditions.{IsKnown, HasThreads, HasRuns};
+ghost use Rattle.exec_check.specs.Broken.{IsFirstBroken};
+ghost use Rattle.exec_check.specs.ThreadTests.{wrong_run, first_wrong, seen_by, failing_at, first_failing};
+
+use crate::{Failing, Reject};
+use axiom_model::{Candidate, ThreadPart};
+use c_check::Checked;
+use consistency::ThreadActions;
+use dg_base::List;
+use run_model::{Ending, RunStop, ThreadRun, run_thread};
+use std::alloc::Global;
+
+/// What a candidate's threads did.
+#[derive(Drop)]
+pub(crate) struct Ran {
+    /// Each thread with its actions.
+    pub threads: List<ThreadActions>,
+    /// The first that fails an assertion.
+    pub failing: Option<Failing>,
+}
+
+// Whether the thread came to its end.
+fn has_ended(ending: &Ending) -> bool
+    ensures { result ≡ endings.has_ended ending.now }
+{
+    match ending {
+        Ending::Ended => true,
+        Ending::Stopped => false,
+        Ending::Failed(_) => false,
+        Ending::Bad => false,
+    }
+}
+
+// Whether a choice was made that no execution makes.
+fn is_bad(ending: &Ending) -> bool
+    ensures { result ≡ endings.is_bad ending.now }
+{
+    match ending {
+        Ending::Ended => false,
+        Ending::Stopped => false,
+        Ending::Failed(_) => false,
+        Ending::Bad => true,
+    }
+}
+
+// The thread, where it fails an assertion.
+fn failing(part: &ThreadPart, ending: &Ending) -> Option<Failing>
+    ensures { result ≡ failing_at part.now (endings.failed_at ending.now) }
+{
+    match ending {
+        Ending::Failed(place) => Some(Failing {
+            handle: part.handle,
+            place: *place,
+        }),
+        Ending::Ended => None,
+        Ending::Stopped => None,
+        Ending::Bad => None,
+    }
+}
+
+// The run of a thread, which uses its whole script and makes no bad choice.
+fn run_one(alloc: Global, checked: &Checked, part: &ThreadPart) -> Result<ThreadRun, Reject>
+    requires { IsKnown (shape checked.now) 0 part.now }
+    ensures told { IfOk result (λ r. run_told checked.now part.now ≡ Some (run_of r)) }
+    ensures well { IfOk result (λ r. wrong_run part.now (run_told checked.now part.now) ≡ None) }
+    ensures wrong { IfErr result (λ e. (e ≡ reject.OutOfMemory) ⊎ (wrong_run part.now (run_told checked.now part.now) ≡ Some e)) }
+{
+    let script = part.script.as_slice();
+    let run = match run_thread(alloc, checked, part.function, part.handle, part.arg, script) {
+        Ok(run) => run,
+        Err(RunStop::ScriptShort(_)) => return Err(Reject::ScriptShort(part.handle)),
+        Err(RunStop::OutOfMemory) => return Err(Reject::OutOfMemory),
+    };
+    if run.used as usize != script.len() {
+        return Err(Reject::ScriptLong(part.handle));
+    }
+    if is_bad(&run.ending) {
+        return Err(Reject::BadRun(part.handle));
+    }
+    Ok(run)
+}
+
+// The thread, as the memory models see it.
+fn seen(part: &ThreadPart, run: ThreadRun) -> ThreadActions
+    ensures { thread_seen result ≡ thread_of part.now (run_of run) }
+{
+    ThreadActions {
+        handle: part.handle,
+        function: part.function,
+        arg: part.arg,
+        ended: has_ended(&run.ending),
+        bad: is_bad(&run.ending),
+        actions: run.actions,
+    }
+}
+
+// The first of two, where there are any.
+fn earlier(first: Option<Failing>, second: Option<Failing>) -> Option<Failing>
+    ensures { result ≡ or_else first second }
+{
+    match first {
+        Some(failing) => Some(failing),
+        None => second,
+    }
+}
+
+// The runs of threads, each of which uses its whole script and makes no bad choice.
+fn run_parts(alloc: Global, checked: &Checked, parts: &[ThreadPart]) -> Result<Ran, Reject>
+    requires { EachThread (IsKnown (shape checked.now)) parts.now }
+    ensures well { OnOk result (first_wrong checked.now parts.now ≡ None) }
+    ensures seen { IfOk result (λ r. map thread_seen r.threads ≡ map (seen_by checked.now) parts.now) }
+    ensures failing { IfOk result (λ r. r.failing ≡ first_failing checked.now parts.now) }
+    ensures wrong { IfErr result (λ e. (e ≡ reject.OutOfMemory) ⊎ (first_wrong checked.now parts.now ≡ Some e)) }
+{
+    let mut threads = List::new(alloc);
+    let mut first: Option<Failing> = None;
+    for part in parts {
+        let run = run_one(alloc, checked, part)?;
+        first = earlier(first, failing(part, &run.ending));
+        if threads.push(seen(part, run)).is_err() {
+            return Err(Reject::OutOfMemory);
+        }
+    }
+    Ok(Ran {
+        threads,
+        failing: first,
+    })
+}
+
+/// The runs of a candidate's threads, each of which uses its whole script and makes no bad choice.
+pub(crate) fn run_all(
+    alloc: Global,
+    checked: &Checked,
+    candidate: &Candidate,
+) -> Result<Ran, Reject>
+    requires { HasThreads checked.now candidate.now }
+    ensures runs { OnOk result (HasRuns checked.now candidate.now) }
+    ensures seen { IfOk result (λ r. execution_seen r.threads candidate.now.rf candidate.now.co ≡ execution_in checked.now candidate.now) }
+    ensures failing { IfOk result (λ r. r.failing ≡ first_failing checked.now candidate.now.threads) }
+    ensures broken { (m : MemoryModel) → IfErr result (IsFirstBroken checked.now m candidate.now) }
+{
+    run_parts(alloc, checked, candidate.threads.as_slice())
+}
