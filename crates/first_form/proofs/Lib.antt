@@ -1,6 +1,6 @@
 mod Distinct
 pub mod Reading
 mod Differ
-mod Parts
+pub mod Parts
 mod Numbers
 pub mod Programs

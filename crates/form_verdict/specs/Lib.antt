@@ -1,0 +1,4 @@
+pub mod Final
+pub mod Search
+pub mod Verdict
+pub mod Deciding
