@@ -1,23 +1,6 @@
-mod Lists
-mod RunSteps
-mod Actions
-mod MainRuns
-mod Created
-mod LastWrite
-pub mod NoneFails
-mod FailsRuns
-mod FailsActions
-mod FailsRank
-mod FailsWrites
-mod FailsFinal
-mod FailsExecution
-mod FailsWellMade
-mod FailsOrder
-pub mod Fails
-mod Searching
-mod Building
 mod Texts
-mod Unsafe
+mod Words
 mod Outcomes
-mod Refusing
-mod OneAnswer
+mod Files
+mod Verdicts
+mod Alone

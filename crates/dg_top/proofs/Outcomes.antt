@@ -1,12 +1,11 @@
 -- From a reply and what its print left to the outcome of a run.
 use Rattle.std.proofs.Common.{◌≡◌, ℕ, ◌<◌, List, Option, Some, None, Ok, Err, refl, sym, subst, arith, take}
 use Rattle.dg_base.specs.declared.outside.FileEntry.{FileEntry}
-use Rattle.dg_base.specs.declared.outside.Trouble.TheVariants.{Failed, Long}
-use Rattle.dg_base.specs.Outside.{Changes, Fetches, Prints, Told, Unchanged, contents}
+use Rattle.dg_base.specs.declared.outside.Trouble.TheVariants.{Failed}
+use Rattle.dg_base.specs.Outside.{Changes, Prints, Told, Unchanged}
 use Rattle.dg_top.specs.declared.reply.Reply.{Reply}
-use Rattle.dg_top.specs.Answers as answers
-use Rattle.dg_top.specs.Answers.{Allowed, Answer, Appended, BadWords, IsStatus, LongFile, NotYet, Outcome, Refused, Safe, Unsafe, answered, bad_words, file_named, long_file, no_memory, status_of, text_of, unfetched, unprinted, verdict}
-use Rattle.dg_top.specs.Replies.{Gives, Replies, Spells}
+use Rattle.dg_top.specs.Answers.{Allowed, Answer, Appended, BadWitness, BadWords, Failing, IsStatus, LongFile, NotYet, Outcome, Refused, Rejected, Safe, Unsafe, answered, no_memory, status_of, text_of, unfetched, unprinted}
+use Rattle.dg_top.specs.Replies.{IsOneOf, Replies, Spells}
 
 pub told_map : {A : Type 0} (P Q : A → Type 0) (o : Option A) → ((x : A) → P x → Q x) → Told P o → Told Q o
 told_map P Q None f t = tt
@@ -32,54 +31,55 @@ unchanged {A} before now e = subst (λ o. Unchanged before o) (sym e) (same befo
 
 pub status_small : (a : Answer) → status_of a < 5
 status_small Safe = omega arith
-status_small (Unsafe f c h at) = omega arith
+status_small (Unsafe p c h at) = omega arith
+status_small (Failing h at) = omega arith
+status_small (Rejected p e) = omega arith
 status_small BadWords = omega arith
 status_small (Refused e) = omega arith
 status_small NotYet = omega arith
+status_small (BadWitness line) = omega arith
 status_small (LongFile name) = omega arith
 
 pub status_known : (a : Answer) → IsStatus (status_of a)
 status_known Safe = refl
-status_known (Unsafe f c h at) = refl
+status_known (Unsafe p c h at) = refl
+status_known (Failing h at) = refl
+status_known (Rejected p e) = refl
 status_known BadWords = refl
 status_known (Refused e) = refl
 status_known NotYet = refl
+status_known (BadWitness line) = refl
 status_known (LongFile name) = refl
 
 -- the status of a reply is that of its answer
-pub reply_small : (words : List (List ℕ)) (files : Option (List FileEntry)) (r : Reply) → Replies words files r → r.status < 5
+pub reply_small : (words : List (List ℕ)) (files : Option (List FileEntry)) (r : Reply) → Replies (Allowed words) files r → r.status < 5
 reply_small words files r p = let small : status_of p.answer < 5 = status_small p.answer in omega (arith, p.spelled.status)
 
-pub reply_known : (words : List (List ℕ)) (files : Option (List FileEntry)) (r : Reply) → Replies words files r → IsStatus r.status
+pub reply_known : (words : List (List ℕ)) (files : Option (List FileEntry)) (r : Reply) → Replies (Allowed words) files r → IsStatus r.status
 reply_known words files r p = subst IsStatus (sym p.spelled.status) (status_known p.answer)
 
 -- ---- replies
 
-pub words_reply : (words : List (List ℕ)) (files : Option (List FileEntry)) (r : Reply) → file_named words ≡ None → Spells BadWords r → Replies words files r
-words_reply words files r none spelled = record {
-  answer = BadWords;
-  allowed = told_all (λ fs. Allowed words fs BadWords) files (λ fs. bad_words none);
-  spelled = spelled;
-}
+-- an answer that all files allow
+pub always : (P : List FileEntry → Answer → Type 0) (a : Answer) (files : Option (List FileEntry)) (r : Reply) → ((fs : List FileEntry) → P fs a) → Spells a r → Replies P files r
+always P a files r allowed spelled = record { answer = a; allowed = told_all (λ fs. P fs a) files allowed; spelled = spelled }
 
-pub long_reply : (words : List (List ℕ)) (files : Option (List FileEntry)) (name into : List ℕ) (r : Reply) → file_named words ≡ Some name → Told (λ fs. Fetches (contents fs name) into (Err Long)) files → Spells (LongFile name) r → Replies words files r
-long_reply words files name into r named told spelled = record {
-  answer = LongFile name;
-  allowed = told_map (λ fs. Fetches (contents fs name) into (Err Long)) (λ fs. Allowed words fs (LongFile name)) files (λ fs long. long_file name named long) told;
-  spelled = spelled;
-}
+-- an answer that the files allow by what is told of them
+pub by_files : (Q : List FileEntry → Type 0) (P : List FileEntry → Answer → Type 0) (a : Answer) (files : Option (List FileEntry)) (r : Reply)
+    → ((fs : List FileEntry) → Q fs → P fs a) → Told Q files → Spells a r → Replies P files r
+by_files Q P a files r f told spelled = record { answer = a; allowed = told_map Q (λ fs. P fs a) files f told; spelled = spelled }
 
-pub verdict_reply : (words : List (List ℕ)) (files : Option (List FileEntry)) (name into : List ℕ) (r : Reply) → file_named words ≡ Some name → Told (λ fs. Fetches (contents fs name) into (Ok tt)) files → Gives into r → Replies words files r
-verdict_reply words files name into r named told gives = record {
-  answer = gives.answer;
-  allowed = told_map (λ fs. Fetches (contents fs name) into (Ok tt)) (λ fs. Allowed words fs gives.answer) files
-      (λ fs fetched. verdict name gives.answer named fetched.1 (subst (λ text. answers.IsVerdict text gives.answer) fetched.0 gives.allowed)) told;
-  spelled = gives.spelled;
-}
+-- what a reply may be of is more
+pub widened : (P Q : List FileEntry → Answer → Type 0) (files : Option (List FileEntry)) (r : Reply) → ((fs : List FileEntry) (a : Answer) → P fs a → Q fs a) → Replies P files r → Replies Q files r
+widened P Q files r f p = record { answer = p.answer; allowed = told_map (λ fs. P fs p.answer) (λ fs. Q fs p.answer) files (λ fs. f fs p.answer) p.allowed; spelled = p.spelled }
+
+-- one of these answers is one of those
+pub one_of : (P Q : Answer → Type 0) (r : Reply) → ((a : Answer) → P a → Q a) → IsOneOf P r → IsOneOf Q r
+one_of P Q r f p = record { answer = p.answer; allowed = f p.answer p.allowed; spelled = p.spelled }
 
 -- ---- outcomes
 
-pub printed_whole : (words : List (List ℕ)) (files : Option (List FileEntry)) (before middle now : Option (List ℕ)) (r : Reply) → middle ≡ before → Replies words files r → Changes (Prints r.text.items (Ok tt)) middle now → Told (λ fs. Outcome words fs before now r.status) files
+pub printed_whole : (words : List (List ℕ)) (files : Option (List FileEntry)) (before middle now : Option (List ℕ)) (r : Reply) → middle ≡ before → Replies (Allowed words) files r → Changes (Prints r.text.items (Ok tt)) middle now → Told (λ fs. Outcome words fs before now r.status) files
 printed_whole words files before middle now r same p change =
     let made : Changes (Appended (text_of p.answer)) before now = subst (λ text. Changes (Appended text) before now) p.spelled.text (subst (λ o. Changes (Prints r.text.items (Ok tt)) o now) same change) in
     subst (λ s. Told (λ fs. Outcome words fs before now s) files) (sym p.spelled.status) (told_map (λ fs. Allowed words fs p.answer) (λ fs. Outcome words fs before now (status_of p.answer)) files (λ fs allowed. answered p.answer allowed made) p.allowed)
@@ -89,7 +89,7 @@ part_of bytes None now c = (0, tt)
 part_of bytes (Some a) None c = absurd c
 part_of bytes (Some a) (Some b) c = c
 
-pub printed_part : (words : List (List ℕ)) (files : Option (List FileEntry)) (before middle now : Option (List ℕ)) (r : Reply) → middle ≡ before → Replies words files r → Changes (Prints r.text.items (Err Failed)) middle now → Told (λ fs. Outcome words fs before now 6) files
+pub printed_part : (words : List (List ℕ)) (files : Option (List FileEntry)) (before middle now : Option (List ℕ)) (r : Reply) → middle ≡ before → Replies (Allowed words) files r → Changes (Prints r.text.items (Err Failed)) middle now → Told (λ fs. Outcome words fs before now 6) files
 printed_part words files before middle now r same p change =
     let part = part_of (text_of p.answer) before now (subst (λ text. Changes (Prints text (Err Failed)) before now) p.spelled.text (subst (λ o. Changes (Prints r.text.items (Err Failed)) o now) same change)) in
     told_map (λ fs. Allowed words fs p.answer) (λ fs. Outcome words fs before now 6) files (λ fs allowed. unprinted p.answer part.0 allowed part.1) p.allowed

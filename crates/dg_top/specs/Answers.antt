@@ -1,5 +1,5 @@
 -- The answers of the top call: when each comes, its status, and what it prints.
-use Rattle.std.specs.Prelude.{◌≡◌, ℕ, ◌<◌, ◌≤◌, List, [], ◌∷◌, ◌++◌, Option, Some, None, if◌then◌else◌, ◌==◌, IsTrue, codes, bytes_eq, decimal, length, map, take}
+use Rattle.std.specs.Prelude.{◌≡◌, ◌≢◌, ℕ, nat_lt, List, [], ◌∷◌, ◌++◌, Option, Some, None, if◌then◌else◌, ◌==◌, IsTrue, codes, decimal, length, map, take}
 use Rattle.std.specs.List.{list_any}
 use Rattle.dg_base.specs.declared.Place.{Place}
 use Rattle.dg_base.specs.declared.refusal.Refusal.{Refusal}
@@ -7,76 +7,114 @@ use Rattle.dg_base.specs.declared.outside.FileEntry.{FileEntry}
 use Rattle.dg_base.specs.declared.outside.TheConstants.{LONGEST_FILE}
 use Rattle.dg_base.specs.Outside.{Changes, Unchanged, contents}
 use Rattle.axiom_model.specs.declared.Candidate.{Candidate}
+use Rattle.axiom_model.specs.declared.MemoryModel.{MemoryModel}
+use Rattle.axiom_model.specs.declared.MemoryModel.TheVariants.{Sc}
 use Rattle.axiom_model.specs.Failing.{FailsFirst}
-use Rattle.c_tree.specs.declared.program.Program.{Program}
-use Rattle.first_form.specs.declared.form.Form.{Form}
+use Rattle.c_check.specs.declared.checked.Checked.{Checked}
 use Rattle.first_form.specs.Whole.{form_of}
-use Rattle.dg_top.specs.Accepting.{IsAccepted, IsRefused}
+use Rattle.run_model.specs.Threads.{ProgramFails}
+use Rattle.exec_check.specs.declared.Reject.{Reject}
+use Rattle.exec_check.specs.declared.Reject.TheVariants as reject
+use Rattle.exec_check.specs.Broken.{IsFirstBroken}
+use Rattle.witness_text.specs.Spelling.{Refuses, Spells, cell_names}
+use Rattle.witness_text.specs.Witness.{witness_text}
+use Rattle.c_program.specs.Accepting.{IsAccepted, IsRefused}
+use Rattle.dg_top.specs.declared.settings.Job.TheVariants.{Verify, Replay}
+use Rattle.dg_top.specs.declared.settings.Settings.{Settings}
 use Rattle.dg_top.specs.Refusals.{place_text, refusal_text}
-use Rattle.dg_top.specs.Runs.{FormFails}
-use Rattle.dg_top.specs.Witness.{line_feed, witness_text}
-
--- The words: the program's name, `verify`, and a file. This is the file; none where they are any others.
-abbrev pub file_named : List (List ℕ) → Option (List ℕ)
-file_named (program ∷ job ∷ name ∷ []) = if bytes_eq job (codes "verify") then Some name else None
-file_named _ = None
+use Rattle.dg_top.specs.Rejects.{reject_text}
+use Rattle.dg_top.specs.Settings.{Word, files_of, settings_of}
 
 -- an answer, with the values that it shows
 pub data Answer : Type 0 where
   -- no execution fails
   Safe : Answer
   -- this candidate of this program is a failing execution; the handle and the place of the failing thread
-  Unsafe : Form → Candidate → ℕ → Place → Answer
+  Unsafe : Checked → Candidate → ℕ → Place → Answer
+  -- the witness is a failing execution; the handle and the place of the failing thread
+  Failing : ℕ → Place → Answer
+  -- the witness is no failing execution of this program
+  Rejected : Checked → Reject → Answer
   -- the words are not those of a job
   BadWords : Answer
-  -- the text is refused
+  -- the program's text is refused
   Refused : Refusal → Answer
-  -- the text is accepted, and its program is not of the first form
+  -- the text is accepted, and its program is not decided yet
   NotYet : Answer
+  -- the witness's text goes wrong at this line
+  BadWitness : ℕ → Answer
   -- the file of this name is too long
-  LongFile : List ℕ → Answer
+  LongFile : Word → Answer
 
--- the answers that a text allows
-pub data IsVerdict (text : List ℕ) : Answer → Type 0 where
-  refused : (e : Refusal) → IsRefused text e → IsVerdict text (Refused e)
-  not_yet : (program : Program) → IsAccepted text program → form_of program ≡ None → IsVerdict text NotYet
-  safe : (program : Program) (f : Form) → IsAccepted text program → form_of program ≡ Some f → ((c : Candidate) → FormFails f c → ⊥) → IsVerdict text Safe
-  unsafe : (program : Program) (f : Form) (c : Candidate) (handle : ℕ) (at : Place) → IsAccepted text program → form_of program ≡ Some f
-      → (x : FormFails f c) → FailsFirst c x.threads handle at → IsVerdict text (Unsafe f c handle at)
+-- the programs that are decided: those of the first form, under sequential consistency
+abbrev pub IsDecided : MemoryModel → Checked → Type 0
+IsDecided m p = (m ≡ Sc) × (form_of p.program ≢ None)
 
--- the answers that words and files allow; an answer in the upper lines comes before those below it
-pub data Allowed (words : List (List ℕ)) (files : List FileEntry) : Answer → Type 0 where
-  bad_words : file_named words ≡ None → Allowed words files BadWords
-  long_file : (name : List ℕ) → file_named words ≡ Some name → LONGEST_FILE < length (contents files name) → Allowed words files (LongFile name)
-  verdict : (name : List ℕ) (a : Answer) → file_named words ≡ Some name → length (contents files name) ≤ LONGEST_FILE
-      → IsVerdict (contents files name) a → Allowed words files a
+-- what is answered of a program under a model
+pub data IsVerdict (m : MemoryModel) (p : Checked) : Answer → Type 0 where
+  not_yet : (IsDecided m p → ⊥) → IsVerdict m p NotYet
+  safe : IsDecided m p → ((c : Candidate) → ProgramFails p m c → ⊥) → IsVerdict m p Safe
+  unsafe : (c : Candidate) (handle : ℕ) (at : Place) → IsDecided m p → (x : ProgramFails p m c) → FailsFirst c x.threads handle at
+      → IsVerdict m p (Unsafe p c handle at)
+
+-- what is answered of a witness's text for a program under a model
+pub data IsReplay (m : MemoryModel) (p : Checked) (witness : List ℕ) : Answer → Type 0 where
+  bad_witness : (line : ℕ) → Refuses p.functions (cell_names p.cells) witness line → IsReplay m p witness (BadWitness line)
+  failing : (c : Candidate) (handle : ℕ) (at : Place) → Spells p.functions (cell_names p.cells) c witness → (x : ProgramFails p m c)
+      → FailsFirst c x.threads handle at → IsReplay m p witness (Failing handle at)
+  rejected : (c : Candidate) (e : Reject) → Spells p.functions (cell_names p.cells) c witness → IsFirstBroken p m c e → e ≢ reject.OutOfMemory
+      → IsReplay m p witness (Rejected p e)
+
+-- what is answered of the texts of a job's files; a refusal of the program comes before all that is said of it
+pub data IsAnswer (s : Settings) : List (List ℕ) → Answer → Type 0 where
+  refused : (text : List ℕ) (others : List (List ℕ)) (e : Refusal) → IsRefused s.bound text e → IsAnswer s (text ∷ others) (Refused e)
+  verified : (text : List ℕ) (p : Checked) (a : Answer) → s.job ≡ Verify → IsAccepted s.bound text p → IsVerdict s.model p a
+      → IsAnswer s (text ∷ []) a
+  replayed : (text witness : List ℕ) (p : Checked) (a : Answer) → s.job ≡ Replay → IsAccepted s.bound text p → IsReplay s.model p witness a
+      → IsAnswer s (text ∷ witness ∷ []) a
+
+-- the first of the names whose file is too long
+abbrev pub first_long : List FileEntry → List Word → Option Word
+first_long files [] = None
+first_long files (name ∷ names) = if nat_lt LONGEST_FILE (length (contents files name)) then Some name else first_long files names
+
+-- what is answered of a job's files
+pub data IsAnswerOf (s : Settings) (names : List Word) (files : List FileEntry) : Answer → Type 0 where
+  long_file : (name : Word) → first_long files names ≡ Some name → IsAnswerOf s names files (LongFile name)
+  answer : (a : Answer) → first_long files names ≡ None → IsAnswer s (map (contents files) names) a → IsAnswerOf s names files a
+
+-- the answers that words and files allow
+pub data Allowed (words : List Word) (files : List FileEntry) : Answer → Type 0 where
+  bad_words : settings_of words ≡ None → Allowed words files BadWords
+  job_done : (s : Settings) (a : Answer) → settings_of words ≡ Some s → IsAnswerOf s (files_of s words) files a → Allowed words files a
 
 abbrev pub status_of : Answer → ℕ
 status_of Safe = 0
-status_of (Unsafe f c handle at) = 1
+status_of (Unsafe p c handle at) = 1
+status_of (Failing handle at) = 0
+status_of (Rejected p e) = 1
 status_of BadWords = 3
 status_of (Refused e) = 4
 status_of NotYet = 4
+status_of (BadWitness line) = 4
 status_of (LongFile name) = 4
 
--- the functions in the order of their numbers: those of the text, then main
-abbrev pub function_names : Form → List (List ℕ)
-function_names f = map (λ t. t.name) f.threads ++ codes "main" ∷ []
+abbrev pub line_feed : List ℕ
+line_feed = 10 ∷ []
 
-abbrev pub cell_names : Option (List ℕ) → List (List ℕ)
-cell_names None = []
-cell_names (Some name) = name ∷ []
-
--- `UNSAFE thread H at L:C`
-abbrev pub unsafe_line : ℕ → Place → List ℕ
-unsafe_line handle at = codes "UNSAFE thread " ++ decimal handle ++ codes " at " ++ place_text at ++ line_feed
+-- `WORD thread H at L:C`
+abbrev pub failing_line : List ℕ → ℕ → Place → List ℕ
+failing_line word handle at = word ++ codes " thread " ++ decimal handle ++ codes " at " ++ place_text at ++ line_feed
 
 abbrev pub text_of : Answer → List ℕ
 text_of Safe = codes "SAFE" ++ line_feed
-text_of (Unsafe f c handle at) = unsafe_line handle at ++ witness_text (function_names f) (cell_names f.cell) c
+text_of (Unsafe p c handle at) = failing_line (codes "UNSAFE") handle at ++ witness_text p.functions (cell_names p.cells) c
+text_of (Failing handle at) = failing_line (codes "FAILING") handle at
+text_of (Rejected p e) = codes "REFUSED " ++ reject_text (cell_names p.cells) e ++ line_feed
 text_of BadWords = codes "words Form" ++ line_feed
 text_of (Refused e) = codes "refused " ++ refusal_text e ++ line_feed
 text_of NotYet = codes "refused E0 NotYet" ++ line_feed
+text_of (BadWitness line) = codes "refused W1 WitnessText " ++ decimal line ++ line_feed
 text_of (LongFile name) = codes "refused Long " ++ name ++ line_feed
 
 -- these bytes were appended
@@ -85,7 +123,7 @@ Appended text before now = now ≡ before ++ text
 
 -- What a run leaves, by its status: an allowed answer was printed whole; or nothing was, after a failed fetch; or a prefix of
 -- an allowed answer, where the print failed; or nothing, for want of memory.
-pub data Outcome (words : List (List ℕ)) (files : List FileEntry) (before now : Option (List ℕ)) : ℕ → Type 0 where
+pub data Outcome (words : List Word) (files : List FileEntry) (before now : Option (List ℕ)) : ℕ → Type 0 where
   answered : (a : Answer) → Allowed words files a → Changes (Appended (text_of a)) before now → Outcome words files before now (status_of a)
   unfetched : Unchanged before now → Outcome words files before now 5
   unprinted : (a : Answer) (n : ℕ) → Allowed words files a → Changes (Appended (take n (text_of a))) before now → Outcome words files before now 6

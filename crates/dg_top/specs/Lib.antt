@@ -1,8 +1,6 @@
-pub mod Runs
-pub mod Final
-pub mod Witness
-pub mod Accepting
+pub mod Settings
 pub mod Refusals
+pub mod Rejects
 pub mod Answers
-pub mod Search
 pub mod Replies
+pub mod Laws

@@ -1,16 +1,24 @@
-// The top call: all that the shipped program does.
+//! The top call: all that the shipped program does.
+//!
+//! [`run`] reads the words of the command line (`specs/Settings`), fetches the files of the job, answers and prints. The
+//! model is the answer: `specs/Answers` says which answers the words and the files allow, with the status and the text of
+//! each, and what a run leaves on the desk. Beneath it stand the reading of a program (`c_program`), the decision of the
+//! first form (`form_verdict`), and for `replay` the witness text (`witness_text`) and the checker of executions
+//! (`exec_check`); this crate joins their answers.
 #![tactic(auto)]
 
-mod accepting;
-mod execution;
 mod laws;
 mod refusals;
+mod rejects;
+mod replay;
 mod reply;
-mod search;
+mod settings;
 #[cfg(test)]
 mod tests;
+mod text;
 mod top_call;
-mod witness;
+mod verify;
 
-pub use laws::{accepted_or_refused, one_program_of_text};
+pub use laws::failing_is_alone;
+pub use settings::{Job, Options, Settings};
 pub use top_call::run;

@@ -2,17 +2,8 @@
 ghost use Rattle.std.specs.Prelude.{◌≡◌, ◌++◌, OnOk, codes, decimal};
 ghost use Rattle.dg_top.specs.Refusals.{kind_text, place_text, refusal_text};
 
-use crate::witness::{put, put_number};
+use crate::text::{put, put_number, put_place};
 use dg_base::{LimitKind, OutOfMemory, Place, Refusal};
-
-/// Appends `L:C`.
-pub fn put_place(out: &mut Vec<u8>, place: Place) -> Result<(), OutOfMemory>
-    ensures { OnOk result (out.new.items ≡ out.old.items ++ place_text place) }
-{
-    put_number(out, place.line)?;
-    put(out, b":")?;
-    put_number(out, place.col)
-}
 
 // Appends the name of the refusal and its place.
 fn put_placed(out: &mut Vec<u8>, name: &[u8], place: Place) -> Result<(), OutOfMemory>

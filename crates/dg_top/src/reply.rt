@@ -1,19 +1,19 @@
 // The answers as status and text.
-ghost use Rattle.std.specs.Prelude.{◌≡◌, ◌≢◌, ◌↔◌, IfOk, IsTrue, OnOk, ◌++◌};
-ghost use Rattle.first_form.specs.Form.{IsProgram};
-ghost use Rattle.dg_top.specs.Answers.{Answer, BadWords, LongFile, NotYet, Refused, unsafe_line};
-ghost use Rattle.dg_top.specs.Replies.{Answers, Decides, Gives, Spells};
-ghost use Rattle.dg_top.specs.Search.{IsFailure};
+ghost use Rattle.std.specs.Prelude.{◌≡◌, ◌≢◌, ◌↔◌, IfOk, IsTrue};
+ghost use Rattle.dg_top.specs.Answers.{BadWitness, BadWords, Failing, LongFile, NotYet, Refused, Rejected, Safe};
+ghost use Rattle.dg_top.specs.Answers as answers;
+ghost use Rattle.dg_top.specs.Replies.{Spells};
+ghost use Rattle.witness_text.specs.Spelling.{IsSpellable, cell_names};
 
-use crate::accepting::accept;
-use crate::execution::execution;
-use crate::refusals::{put_place, put_refusal};
-use crate::search::{Failure, search};
-use crate::witness::{put, put_number, put_witness};
-use c_tree::Program;
+use crate::refusals::put_refusal;
+use crate::rejects::put_reject;
+use crate::text::{put, put_failing_line, put_number};
+use axiom_model::Candidate;
+use c_check::Checked;
 use dg_base::{OutOfMemory, Place, Refusal};
-use first_form::{Form, form_of};
+use exec_check::Reject;
 use std::alloc::Global;
+use witness_text::print_witness;
 
 /// An answer: the status of the process, and the bytes that are printed.
 #[derive(Debug, Drop)]
@@ -49,64 +49,6 @@ fn refused(alloc: Global, refusal: &Refusal) -> Result<Reply, OutOfMemory>
     Ok(Reply { status: 4, text })
 }
 
-fn not_yet(alloc: Global) -> Result<Reply, OutOfMemory>
-    ensures { IfOk result (Spells NotYet) }
-{
-    let text = Vec::from_slice(alloc, b"refused E0 NotYet\n")?;
-    Ok(Reply { status: 4, text })
-}
-
-fn safe(alloc: Global) -> Result<Reply, OutOfMemory>
-    ensures { IfOk result (Spells Answer.Safe) }
-{
-    let text = Vec::from_slice(alloc, b"SAFE\n")?;
-    Ok(Reply { status: 0, text })
-}
-
-fn put_unsafe_line(out: &mut Vec<u8>, handle: u32, at: Place) -> Result<(), OutOfMemory>
-    ensures { OnOk result (out.new.items ≡ out.old.items ++ unsafe_line handle at) }
-{
-    put(out, b"UNSAFE thread ")?;
-    put_number(out, handle)?;
-    put(out, b" at ")?;
-    put_place(out, at)?;
-    put(out, b"\n")
-}
-
-// Main fails at the assertion.
-fn unsafe_at(alloc: Global, form: &Form, failure: &Failure) -> Result<Reply, OutOfMemory>
-    requires program { IsProgram form.now }
-    requires fails { IsFailure form.now failure.now }
-    ensures { IfOk result (Decides form.now) }
-{
-    let candidate = execution(alloc, form, failure)?;
-    let at = form.checks.as_slice()[failure.check].place;
-    let mut text = Vec::new(alloc);
-    put_unsafe_line(&mut text, 0, at)?;
-    put_witness(&mut text, form, &candidate)?;
-    Ok(Reply { status: 1, text })
-}
-
-fn decide(alloc: Global, form: &Form) -> Result<Reply, OutOfMemory>
-    requires { IsProgram form.now }
-    ensures { IfOk result (Decides form.now) }
-{
-    match search(form) {
-        Some(failure) => unsafe_at(alloc, form, &failure),
-        None => safe(alloc),
-    }
-}
-
-// Decides a program: not of the first form, safe, or unsafe with its witness.
-fn decide_program(alloc: Global, program: &Program) -> Result<Reply, OutOfMemory>
-    ensures { IfOk result (Answers program.now) }
-{
-    match form_of(alloc, program)? {
-        Some(form) => decide(alloc, &form),
-        None => not_yet(alloc),
-    }
-}
-
 // Whether the refusal is want of memory.
 fn lacks_memory(refusal: &Refusal) -> bool
     ensures { IsTrue result ↔ (refusal.now ≡ Refusal.OutOfMemory) }
@@ -126,8 +68,8 @@ fn lacks_memory(refusal: &Refusal) -> bool
     }
 }
 
-// The text is refused, unless memory is out.
-fn refuse(alloc: Global, refusal: &Refusal) -> Result<Reply, OutOfMemory>
+/// The program's text is refused, unless memory is out.
+pub fn refuse(alloc: Global, refusal: &Refusal) -> Result<Reply, OutOfMemory>
     ensures { IfOk result (λ r. Spells (Refused refusal.now) r × (refusal.now ≢ Refusal.OutOfMemory)) }
 {
     if lacks_memory(refusal) {
@@ -136,12 +78,65 @@ fn refuse(alloc: Global, refusal: &Refusal) -> Result<Reply, OutOfMemory>
     refused(alloc, refusal)
 }
 
-/// What the text allows: its first refusal, not of the first form, safe, or unsafe with its witness.
-pub fn verdict(alloc: Global, text: &[u8]) -> Result<Reply, OutOfMemory>
-    ensures { IfOk result (Gives text.now) }
+/// The program is not decided yet.
+pub fn not_yet(alloc: Global) -> Result<Reply, OutOfMemory>
+    ensures { IfOk result (Spells NotYet) }
 {
-    match accept(alloc, text) {
-        Ok(checked) => decide_program(alloc, &checked.program),
-        Err(refusal) => refuse(alloc, &refusal),
-    }
+    let text = Vec::from_slice(alloc, b"refused E0 NotYet\n")?;
+    Ok(Reply { status: 4, text })
+}
+
+/// No execution fails.
+pub fn safe(alloc: Global) -> Result<Reply, OutOfMemory>
+    ensures { IfOk result (Spells Safe) }
+{
+    let text = Vec::from_slice(alloc, b"SAFE\n")?;
+    Ok(Reply { status: 0, text })
+}
+
+/// The candidate is a failing execution of the program.
+pub fn unsafe_at(
+    alloc: Global,
+    checked: &Checked,
+    candidate: &Candidate,
+    handle: u32,
+    place: Place,
+) -> Result<Reply, OutOfMemory>
+    requires { IsSpellable checked.now.functions (cell_names checked.now.cells) candidate.now }
+    ensures { IfOk result (Spells (answers.Unsafe checked.now candidate.now handle place)) }
+{
+    let witness = print_witness(alloc, checked, candidate)?;
+    let mut text = Vec::new(alloc);
+    put_failing_line(&mut text, b"UNSAFE", handle, place)?;
+    put(&mut text, witness.as_slice())?;
+    Ok(Reply { status: 1, text })
+}
+
+/// The witness is a failing execution.
+pub fn failing_at(alloc: Global, handle: u32, place: Place) -> Result<Reply, OutOfMemory>
+    ensures { IfOk result (Spells (Failing handle place)) }
+{
+    let mut text = Vec::new(alloc);
+    put_failing_line(&mut text, b"FAILING", handle, place)?;
+    Ok(Reply { status: 0, text })
+}
+
+/// The witness is no failing execution of the program.
+pub fn rejected(alloc: Global, checked: &Checked, reject: &Reject) -> Result<Reply, OutOfMemory>
+    ensures { IfOk result (Spells (Rejected checked.now reject.now)) }
+{
+    let mut text = Vec::from_slice(alloc, b"REFUSED ")?;
+    put_reject(&mut text, checked.cells.as_slice(), reject)?;
+    put(&mut text, b"\n")?;
+    Ok(Reply { status: 1, text })
+}
+
+/// The witness's text goes wrong at this line.
+pub fn bad_witness(alloc: Global, line: u32) -> Result<Reply, OutOfMemory>
+    ensures { IfOk result (Spells (BadWitness line)) }
+{
+    let mut text = Vec::from_slice(alloc, b"refused W1 WitnessText ")?;
+    put_number(&mut text, line)?;
+    put(&mut text, b"\n")?;
+    Ok(Reply { status: 4, text })
 }

@@ -6,6 +6,7 @@ use std::test::Fail;
 use std::thread::Threads;
 
 mod programs;
+mod replays;
 
 fn row_1() -> &'static str {
     "int x;
@@ -141,17 +142,18 @@ end
 "
 }
 
-fn verify<R: Threads + Sync + AllocGlobal>(
+// The status of a run with the words of this line.
+fn call<R: Threads + Sync + AllocGlobal>(
     rt: &R,
     desk: &mut MemDesk,
-    words: &[&str],
+    line: &str,
 ) -> Result<u8, Fail> {
     let alloc = rt.alloc();
-    let mut list = Words::new(alloc)?;
-    for word in words {
-        list.push(word)?;
+    let mut words = Words::new(alloc)?;
+    for word in line.split(' ') {
+        words.push(word)?;
     }
-    Ok(run(rt, alloc, &list, desk, &OpenGate))
+    Ok(run(rt, alloc, &words, desk, &OpenGate))
 }
 
 // A desk with one file.
@@ -169,7 +171,7 @@ fn answers<R: Threads + Sync + AllocGlobal>(
     printed: &str,
 ) -> Result<bool, Fail> {
     let mut desk = desk_with(rt.alloc(), "program.c", text)?;
-    let answer = verify(rt, &mut desk, &["deagle", "verify", "program.c"])?;
+    let answer = call(rt, &mut desk, "deagle verify program.c")?;
     Ok(answer == status && desk.printed() == printed.as_bytes())
 }
 
@@ -251,7 +253,7 @@ fn rows_on_limits(rt: HostRuntime) -> Result<(), Fail> {
     long.resize(length, 32u8)?;
     let mut desk = MemDesk::new(rt.alloc())?;
     desk.put("long.c", long.as_slice())?;
-    assert_eq!(rt; verify(&rt, &mut desk, &["deagle", "verify", "long.c"])?, 4);
+    assert_eq!(rt; call(&rt, &mut desk, "deagle verify long.c")?, 4);
     assert!(rt; desk.printed() == b"refused E10 Limit text 1048577\n".as_slice());
     Ok(())
 }
@@ -294,16 +296,53 @@ fn rows_on_checked_programs(rt: HostRuntime) -> Result<(), Fail> {
     Ok(())
 }
 
+// Lines that are not the words of a job.
+fn bad_lines() -> &'static [&'static str] {
+    &[
+        "deagle",
+        "deagle verify",
+        "deagle check row1.c",
+        "deagle verify row1.c row1.c",
+        "deagle verify --model sc",
+        "deagle replay row1.c",
+        "deagle verify row1.c --model",
+        "deagle verify row1.c --model arm",
+        "deagle verify row1.c --unroll 0",
+        "deagle verify row1.c --unroll 65",
+        "deagle verify row1.c --unroll 02",
+        "deagle verify row1.c --model sc --model sc",
+    ]
+}
+
 #[test]
 fn rows_on_words(rt: HostRuntime) -> Result<(), Fail> {
-    for words in [
-        ["deagle", "verify"].as_slice(),
-        ["deagle", "check", "row1.c"].as_slice(),
-        ["deagle", "verify", "row1.c", "row1.c"].as_slice(),
-    ] {
+    for line in bad_lines() {
         let mut desk = desk_with(rt.alloc(), "row1.c", row_1())?;
-        assert_eq!(rt; verify(&rt, &mut desk, words)?, 3);
+        assert_eq!(rt; call(&rt, &mut desk, line)?, 3);
         assert!(rt; desk.printed() == b"words Form\n".as_slice());
+    }
+    Ok(())
+}
+
+// Lines with options, and what is printed of a program that is safe.
+fn with_options() -> &'static [(&'static str, &'static str)] {
+    &[
+        ("deagle verify same.c --model sc", "SAFE\n"),
+        ("deagle verify same.c --model tso", "refused E0 NotYet\n"),
+        (
+            "deagle verify same.c --unroll 64 --model pso",
+            "refused E0 NotYet\n",
+        ),
+        ("deagle verify same.c --model sc --unroll 1", "SAFE\n"),
+    ]
+}
+
+#[test]
+fn rows_on_options(rt: HostRuntime) -> Result<(), Fail> {
+    for (line, printed) in with_options() {
+        let mut desk = desk_with(rt.alloc(), "same.c", same())?;
+        call(&rt, &mut desk, line)?;
+        assert!(rt; desk.printed() == printed.as_bytes());
     }
     Ok(())
 }
@@ -311,10 +350,10 @@ fn rows_on_words(rt: HostRuntime) -> Result<(), Fail> {
 #[test]
 fn rows_on_faults(rt: HostRuntime) -> Result<(), Fail> {
     let mut desk = desk_with(rt.alloc(), "row1.c", row_1())?;
-    assert_eq!(rt; verify(&rt, &mut desk, &["deagle", "verify", "row2.c"])?, 5);
+    assert_eq!(rt; call(&rt, &mut desk, "deagle verify row2.c")?, 5);
     assert!(rt; desk.printed().is_empty());
     desk.fail_at(3)?;
-    assert_eq!(rt; verify(&rt, &mut desk, &["deagle", "verify", "row1.c"])?, 6);
+    assert_eq!(rt; call(&rt, &mut desk, "deagle verify row1.c")?, 6);
     let answer = row_1_answer().as_bytes();
     assert!(rt; desk.printed() == &answer[..answer.len() / 2]);
     Ok(())
@@ -327,7 +366,7 @@ fn a_long_file_is_refused(rt: HostRuntime) -> Result<(), Fail> {
     long.resize(length, 32u8)?;
     let mut desk = MemDesk::new(rt.alloc())?;
     desk.put("long.c", long.as_slice())?;
-    assert_eq!(rt; verify(&rt, &mut desk, &["deagle", "verify", "long.c"])?, 4);
+    assert_eq!(rt; call(&rt, &mut desk, "deagle verify long.c")?, 4);
     assert!(rt; desk.printed() == b"refused Long long.c\n".as_slice());
     Ok(())
 }

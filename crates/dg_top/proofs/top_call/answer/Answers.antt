@@ -1,19 +1,35 @@
--- Each reply is an answer that the words allow, and where the files are told these.
-use Rattle.std.proofs.Common.{Err, subst}
-use Rattle.dg_base.specs.Outside.{Fetches, Told, contents}
-use Rattle.dg_top.specs.Replies.{Gives}
-use Rattle.dg_top.proofs.Outcomes.{long_reply, verdict_reply, words_reply}
+use Rattle.std.proofs.Common.{◌≡◌, List, ℕ, [], ◌∷◌, Some, sym, ◌∙◌, subst}
+use Rattle.dg_top.specs.Answers.{Allowed, BadWords, IsAnswerOf, bad_words, job_done}
+use Rattle.dg_top.specs.Replies.{Replies}
+use Rattle.dg_top.specs.Settings.{settings_of}
+use Rattle.dg_top.proofs.Outcomes.{always, widened}
+use Rattle.dg_top.proofs.Texts.{if_ok}
+use Rattle.dg_top.proofs.Words.{replay_names, verify_names}
 use Rattle.dg_top.proofs.top_call.answer.Goals as goal
 
 pub returns-in_default-clause-replies : goal.returns-in_default-clause-replies
-returns-in_default-clause-replies g c = words_reply c.args.words.now (g.D.Desk.files c.args.desk.now) c.in_ok-bad_words.field-0 c.in_default.ensures c.in_ok-bad_words.ensures
+returns-in_default-clause-replies g c =
+    always (Allowed c.args.words.now) BadWords (g.D.Desk.files c.args.desk.now) c.in_ok-bad_words.field-0
+    (λ fs. bad_words (sym c.settings_of.ensures.settings ∙ c.in_default.is)) c.in_ok-bad_words.ensures
 
-pub returns-in-Ok-clause-replies : goal.returns-in-Ok-clause-replies
-returns-in-Ok-clause-replies g c =
-    verdict_reply c.args.words.now (g.D.Desk.files c.args.desk.now) c.in-Some.name.now c.fetch.new.into c.in_ok-verdict-in-Ok.field-0
-    c.in-Some.ensures c.in-Ok.ensures.fetched (subst (λ text. Gives text c.in_ok-verdict-in-Ok.field-0) c.as_slice.ensures c.in_ok-verdict-in-Ok.ensures)
+pub returns-in-Verify-clause-replies : goal.returns-in-Verify-clause-replies
+returns-in-Verify-clause-replies g c =
+    let ws = c.args.words.now in
+    let s = c.in-Some.settings in
+    let files = g.D.Desk.files c.args.desk.now in
+    let asked : settings_of ws ≡ Some s = sym c.settings_of.ensures.settings ∙ c.in-Some.is in
+    let names = verify_names s ws c.word.result.now c.in-Verify.is c.word.ensures in
+    if_ok c.verify_file.result (Replies (IsAnswerOf s (c.word.result.now ∷ [])) files) (Replies (Allowed ws) files)
+    (λ r. widened (IsAnswerOf s (c.word.result.now ∷ [])) (Allowed ws) files r
+    (λ fs a v. job_done s a asked (subst (λ (l : List (List ℕ)). IsAnswerOf s l fs a) (sym names) v))) c.verify_file.ensures.replies
 
-pub returns-in-Err-Long-clause-replies : goal.returns-in-Err-Long-clause-replies
-returns-in-Err-Long-clause-replies g c =
-    long_reply c.args.words.now (g.D.Desk.files c.args.desk.now) c.in-Some.name.now c.fetch.new.into c.in_ok-long_file-in-Err-Long.field-0
-    c.in-Some.ensures (subst (λ t. Told (λ fs. Fetches (contents fs c.in-Some.name.now) c.fetch.new.into (Err t)) (g.D.Desk.files c.args.desk.now)) c.in-Err-Long.field-0-is c.in-Err-Long.ensures.fetched) c.in_ok-long_file-in-Err-Long.ensures
+pub returns-in-Replay-clause-replies : goal.returns-in-Replay-clause-replies
+returns-in-Replay-clause-replies g c =
+    let ws = c.args.words.now in
+    let s = c.in-Some.settings in
+    let files = g.D.Desk.files c.args.desk.now in
+    let asked : settings_of ws ≡ Some s = sym c.settings_of.ensures.settings ∙ c.in-Some.is in
+    let names = replay_names s ws c.word-in-Replay.result.now c.word-in-Replay-2.result.now c.in-Replay.is c.word-in-Replay.ensures c.word-in-Replay-2.ensures in
+    if_ok c.replay_files.result (Replies (IsAnswerOf s (c.word-in-Replay.result.now ∷ c.word-in-Replay-2.result.now ∷ [])) files) (Replies (Allowed ws) files)
+    (λ r. widened (IsAnswerOf s (c.word-in-Replay.result.now ∷ c.word-in-Replay-2.result.now ∷ [])) (Allowed ws) files r
+    (λ fs a v. job_done s a asked (subst (λ (l : List (List ℕ)). IsAnswerOf s l fs a) (sym names) v))) c.replay_files.ensures.replies

@@ -1,5 +1,0 @@
-use Rattle.dg_top.proofs.OneAnswer.{not_both}
-use Rattle.dg_top.proofs.laws.accepted_or_refused.Goals as goal
-
-pub returns : goal.returns
-returns c = not_both c.one_program.ensures

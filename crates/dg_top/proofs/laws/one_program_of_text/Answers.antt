@@ -1,5 +1,0 @@
-use Rattle.dg_top.proofs.OneAnswer.{one_program_of_text}
-use Rattle.dg_top.proofs.laws.one_program_of_text.Goals as goal
-
-pub returns : goal.returns
-returns c = one_program_of_text c.one_program.ensures

@@ -1,0 +1,108 @@
+-- What the words of the command line ask for: the program's name, the job, its files, then options.
+use Rattle.std.specs.Prelude.{ℕ, ◌+◌, ◌-◌, ◌*◌, ◌≤◌, nat_le, List, [], ◌∷◌, Bool, false, not, ◌&&◌, if◌then◌else◌, Option, Some, None, codes, bytes_eq, take, drop, nat_eq}
+use Rattle.std.specs.List.{starts_with}
+use Rattle.axiom_model.specs.declared.MemoryModel.{MemoryModel}
+use Rattle.axiom_model.specs.declared.MemoryModel.TheVariants.{Sc, Tso, Pso}
+use Rattle.dg_top.specs.declared.settings.Job.{Job}
+use Rattle.dg_top.specs.declared.settings.Job.TheVariants.{Verify, Replay}
+use Rattle.dg_top.specs.declared.settings.Options.{Options}
+use Rattle.dg_top.specs.declared.settings.Settings.{Settings}
+
+abbrev pub Word : Type 0
+Word = List ℕ
+
+-- what follows from a value
+abbrev pub given : {A B : Type 0} → Option A → (A → Option B) → Option B
+given None f = None
+given (Some x) f = f x
+
+-- ---- values of options
+
+abbrev pub model_named : Word → Option MemoryModel
+model_named w = if bytes_eq w (codes "sc") then Some Sc else (if bytes_eq w (codes "tso") then Some Tso else (if bytes_eq w (codes "pso") then Some Pso else None))
+
+abbrev pub is_digit : ℕ → Bool
+is_digit b = nat_le 48 b && nat_le b 57
+
+abbrev pub bounded : ℕ → Option ℕ
+bounded n = if nat_le 1 n && nat_le n 64 then Some n else None
+
+-- a decimal number from 1 to 64, with no zero in front
+abbrev pub bound_named : Word → Option ℕ
+bound_named (b ∷ []) = if is_digit b then bounded (b - 48) else None
+bound_named (b ∷ c ∷ []) = if nat_le 49 b && is_digit b && is_digit c then bounded ((b - 48) * 10 + (c - 48)) else None
+bound_named _ = None
+
+-- a bound that is given is from 1 to 64
+abbrev pub IsWithin : Option ℕ → Type 0
+IsWithin None = Unit {0}
+IsWithin (Some k) = (1 ≤ k) × (k ≤ 64)
+
+-- ---- options: each is given once at most
+
+abbrev pub no_options : Options
+no_options = record { model = None; bound = None }
+
+abbrev pub add_model : Option MemoryModel → Options → Word → Option Options
+add_model (Some m) o w = None
+add_model None o w = given (model_named w) (λ m. Some (record o { model = Some m }))
+
+abbrev pub add_bound : Option ℕ → Options → Word → Option Options
+add_bound (Some k) o w = None
+add_bound None o w = given (bound_named w) (λ k. Some (record o { bound = Some k }))
+
+-- one more option, with its value
+abbrev pub add_option : Options → Word → Word → Option Options
+add_option o name value =
+    if bytes_eq name (codes "--model") then add_model o.model o value
+    else (if bytes_eq name (codes "--unroll") then add_bound o.bound o value else None)
+
+abbrev pub options_of : List Word → Option Options
+options_of [] = Some no_options
+options_of (a ∷ v ∷ []) = add_option no_options a v
+options_of (a ∷ v ∷ b ∷ w ∷ []) = given (add_option no_options a v) (λ o. add_option o b w)
+options_of _ = None
+
+-- the model where none is given, and how often a loop runs at most where nothing is said
+abbrev pub model_or : Option MemoryModel → MemoryModel
+model_or None = Sc
+model_or (Some m) = m
+
+abbrev pub bound_or : Option ℕ → ℕ
+bound_or None = 2
+bound_or (Some k) = k
+
+-- ---- the job
+
+abbrev pub job_named : Word → Option Job
+job_named w = if bytes_eq w (codes "verify") then Some Verify else (if bytes_eq w (codes "replay") then Some Replay else None)
+
+-- a file's name begins with no `-`
+abbrev pub is_file : Word → Bool
+is_file w = not (starts_with nat_eq w (codes "-"))
+
+-- the program; and for a replay the witness
+abbrev pub file_count : Job → ℕ
+file_count Verify = 1
+file_count Replay = 2
+
+abbrev pub are_files : Job → List Word → Bool
+are_files Verify (a ∷ ws) = is_file a
+are_files Replay (a ∷ b ∷ ws) = is_file a && is_file b
+are_files _ _ = false
+
+abbrev pub settled : Job → Options → Settings
+settled j o = record { job = j; model = model_or o.model; bound = bound_or o.bound }
+
+-- the job on files, with the options behind them
+abbrev pub job_with : Job → List Word → Option Settings
+job_with j ws = if are_files j ws then given (options_of (drop (file_count j) ws)) (λ o. Some (settled j o)) else None
+
+-- what the words ask for; none where they are not the words of a job
+abbrev pub settings_of : List Word → Option Settings
+settings_of (program ∷ job ∷ ws) = given (job_named job) (λ j. job_with j ws)
+settings_of _ = None
+
+-- the files of the job, in the order in which they are read
+abbrev pub files_of : Settings → List Word → List Word
+files_of s ws = take (file_count s.job) (drop 2 ws)

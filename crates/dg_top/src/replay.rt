@@ -1,0 +1,109 @@
+// The job `replay`: whether a witness is a failing execution of a program.
+ghost use Rattle.std.specs.Prelude.{◌≡◌, ◌≢◌, ◌↔◌, ◌≤◌, ◌∷◌, [], IfOk, IsTrue};
+ghost use Rattle.c_check.specs.WellFormed.{IsChecked};
+ghost use Rattle.witness_text.specs.Spelling.{HasPlainNames, Spells, cell_names};
+ghost use Rattle.dg_top.specs.declared.settings.Job.TheVariants.{Replay};
+ghost use Rattle.dg_top.specs.Answers.{IsAnswer, IsReplay, Rejected};
+ghost use Rattle.dg_top.specs.Replies as replies;
+ghost use Rattle.dg_top.specs.Replies.{IsOneOf};
+
+use crate::reply::{Reply, bad_witness, failing_at, refuse, rejected};
+use crate::settings::Settings;
+use axiom_model::{Candidate, MemoryModel};
+use c_check::Checked;
+use c_program::{names_are_plain, read_program};
+use dg_base::OutOfMemory;
+use exec_check::{Reject, check_execution};
+use std::alloc::Global;
+use witness_text::{WitnessFault, read_witness};
+
+// Whether the candidate is not refused, but memory is out.
+fn lacks_memory(reject: &Reject) -> bool
+    ensures { IsTrue result ↔ (reject.now ≡ Reject.OutOfMemory) }
+{
+    match reject {
+        Reject::MainMissing => false,
+        Reject::ThreadTwice(_) => false,
+        Reject::UnknownThread(_) => false,
+        Reject::ScriptShort(_) => false,
+        Reject::ScriptLong(_) => false,
+        Reject::BadRun(_) => false,
+        Reject::NoCreate(_) => false,
+        Reject::NoThread(_) => false,
+        Reject::BadSource(_) => false,
+        Reject::BadOrder(_) => false,
+        Reject::BadJoin(_) => false,
+        Reject::LocalCycle(_) => false,
+        Reject::GlobalCycle(_) => false,
+        Reject::BlockCycle(_) => false,
+        Reject::NotFailing => false,
+        Reject::OutOfMemory => true,
+    }
+}
+
+// The candidate is no failing execution, unless memory is out.
+fn reject(alloc: Global, checked: &Checked, reject: &Reject) -> Result<Reply, OutOfMemory>
+    ensures { IfOk result (λ r. replies.Spells (Rejected checked.now reject.now) r × (reject.now ≢ Reject.OutOfMemory)) }
+{
+    if lacks_memory(reject) {
+        return Err(OutOfMemory);
+    }
+    rejected(alloc, checked, reject)
+}
+
+// Whether the candidate fails: it was read from the witness.
+fn replay_candidate(
+    alloc: Global,
+    model: MemoryModel,
+    checked: &Checked,
+    witness: &[u8],
+    candidate: &Candidate,
+) -> Result<Reply, OutOfMemory>
+    requires checked { IsChecked checked.now }
+    requires spelled { Spells checked.now.functions (cell_names checked.now.cells) candidate.now witness.now }
+    ensures { IfOk result (IsOneOf (IsReplay model checked.now witness.now)) }
+{
+    let _witness = witness;
+    match check_execution(alloc, checked, model, candidate) {
+        Ok(failing) => failing_at(alloc, failing.handle, failing.place),
+        Err(why) => reject(alloc, checked, &why),
+    }
+}
+
+// What the witness is for the program.
+fn replay_witness(
+    alloc: Global,
+    model: MemoryModel,
+    checked: &Checked,
+    witness: &[u8],
+) -> Result<Reply, OutOfMemory>
+    requires checked { IsChecked checked.now }
+    requires names { HasPlainNames checked.now.functions (cell_names checked.now.cells) }
+    ensures { IfOk result (IsOneOf (IsReplay model checked.now witness.now)) }
+{
+    match read_witness(alloc, checked, witness) {
+        Ok(candidate) => replay_candidate(alloc, model, checked, witness, &candidate),
+        Err(WitnessFault::WitnessText(line)) => bad_witness(alloc, line),
+        Err(WitnessFault::OutOfMemory) => Err(OutOfMemory),
+    }
+}
+
+/// The first refusal of the text, or what the witness is for its program.
+pub fn replay(
+    alloc: Global,
+    settings: &Settings,
+    text: &[u8],
+    witness: &[u8],
+) -> Result<Reply, OutOfMemory>
+    requires job { settings.now.job ≡ Replay }
+    requires bound { (1 ≤ settings.now.bound) × (settings.now.bound ≤ 64) }
+    ensures { IfOk result (IsOneOf (IsAnswer settings.now (text.now ∷ witness.now ∷ []))) }
+{
+    match read_program(alloc, text, settings.bound) {
+        Ok(checked) => {
+            names_are_plain();
+            replay_witness(alloc, settings.model, &checked, witness)
+        }
+        Err(refusal) => refuse(alloc, &refusal),
+    }
+}
