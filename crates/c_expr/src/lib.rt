@@ -29,6 +29,3 @@ pub use laws::{
 pub use parser::expr;
 pub use type_words::{first_word, grown, may_grow};
 pub use word::{Keyword, TypeName, Word, word_of};
-
-#[cfg(test)]
-mod tests;

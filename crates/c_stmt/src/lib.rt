@@ -24,6 +24,3 @@ mod statements;
 
 pub use laws::one_program;
 pub use parser::parse;
-
-#[cfg(test)]
-mod tests;

@@ -1,37 +1,11 @@
+// Expressions, from words to trees.
 ghost use Rattle.std.specs.Prelude.{◌≤◌};
 
-use crate::{ExprForm, expr};
-use c_token::{Token, TokenKind, Tokens};
+use super::words::tokens;
+use c_expr::{ExprForm, expr};
 use c_tree::Expr;
-use dg_base::{Bytes, List, Place, Refusal};
-use std::alloc::{AllocError, Global};
-
-fn kind(text: &[u8]) -> TokenKind {
-    match text {
-        [b'0'..=b'9', ..] => TokenKind::Number,
-        [b'a'..=b'z', ..] => TokenKind::Name,
-        [b'"', ..] => TokenKind::Text,
-        _ => TokenKind::Mark,
-    }
-}
-
-// The words of a text with one space between them, each as a token on line 1, in the column of its number.
-fn tokens(alloc: Global, text: &str) -> Result<Tokens, AllocError> {
-    let mut list = List::new(alloc);
-    let mut col = 0u32;
-    for word in text.as_bytes().split(|byte| *byte == b' ') {
-        col = col.saturating_add(1);
-        list.push(Token {
-            kind: kind(word),
-            place: Place { line: 1, col },
-            text: Bytes::from_slice(alloc, word)?,
-        })?;
-    }
-    Ok(Tokens {
-        list,
-        end: Place { line: 2, col: 1 },
-    })
-}
+use dg_base::Refusal;
+use std::alloc::Global;
 
 // The column of the root.
 fn root(tree: &Expr) -> u32 {
@@ -58,7 +32,7 @@ fn root(tree: &Expr) -> u32 {
 fn told(alloc: Global, text: &str, above: u32, form: ExprForm) -> (u32, u32)
     requires { above ≤ 200 }
 {
-    let Ok(tokens) = tokens(alloc, text) else {
+    let Ok(tokens) = tokens(alloc, &[(text, 1)]) else {
         return (98, 98);
     };
     match expr(alloc, &tokens, 0, above, form) {
