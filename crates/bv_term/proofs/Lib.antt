@@ -1,0 +1,5 @@
+mod Fits
+pub mod Folded
+pub mod Arguments
+pub mod Pushed
+pub mod ValueLaws
