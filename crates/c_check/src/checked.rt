@@ -22,4 +22,6 @@ pub struct Checked {
     pub cells: List<CellInfo>,
     /// How often a loop runs at most, from 1 to 64.
     pub k: u32,
+    /// Whether a run ends, and fails, where a loop has used up its bound.
+    pub full: bool,
 }

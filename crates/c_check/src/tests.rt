@@ -213,7 +213,7 @@ fn kind_number(kind: LimitKind) -> u32 {
 fn told(alloc: Global, k: u32, text: &str) -> (u32, u32) {
     match program(alloc, text) {
         Err(_) => (1, 0),
-        Ok(program) => match check(alloc, program, k.clamp(1, 64)) {
+        Ok(program) => match check(alloc, program, k.clamp(1, 64), false) {
             Ok(checked) => (
                 0,
                 (checked.functions.len() % 100) as u32 * 1000 + (checked.cells.len() % 1000) as u32,

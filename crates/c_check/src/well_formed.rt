@@ -47,8 +47,13 @@ fn check_rest(alloc: Global, k: u32, program: &Program) -> Result<(), Refusal>
 }
 
 // The program with its lists.
-fn with_lists(alloc: Global, program: Program, k: u32) -> Result<Checked, OutOfMemory>
-    ensures { IfOk result (λ c. (c.program ≡ program) × (c.k ≡ k) × (c.functions ≡ lists.function_names program) × (c.cells ≡ lists.cells_of program)) }
+fn with_lists(
+    alloc: Global,
+    program: Program,
+    k: u32,
+    full: bool,
+) -> Result<Checked, OutOfMemory>
+    ensures { IfOk result (λ c. (c.program ≡ program) × (c.k ≡ k) × (c.full ≡ full) × (c.functions ≡ lists.function_names program) × (c.cells ≡ lists.cells_of program)) }
 {
     let functions = function_names(alloc, program.items.as_slice())?;
     let cells = cells_of(alloc, program.items.as_slice())?;
@@ -57,22 +62,24 @@ fn with_lists(alloc: Global, program: Program, k: u32) -> Result<Checked, OutOfM
         functions,
         cells,
         k,
+        full,
     })
 }
 
 /// Checks a program for a loop bound: it is well formed, and comes with the names of its functions and its shared cells; or it
-/// is refused with the first rule that it breaks, at the first place where that is broken. A limit is told with its count.
+/// is refused with the first rule that it breaks, at the first place where that is broken. Whether a spent bound is told changes
+/// neither; it is kept for the runs. A limit is told with its count.
 /// Time is linear in the tree but for look-ups of names and one pass over the top of the program for each function; and where
 /// there is recursion, for one search over all calls for each function before the one that is told.
-pub fn check(alloc: Global, program: Program, k: u32) -> Result<Checked, Refusal>
+pub fn check(alloc: Global, program: Program, k: u32, full: bool) -> Result<Checked, Refusal>
     requires bound { (1 ≤ k) × (k ≤ 64) }
-    ensures checked { IfOk result (λ c. IsChecked c × (c.program ≡ program) × (c.k ≡ k)) }
+    ensures checked { IfOk result (λ c. IsChecked c × (c.program ≡ program) × (c.k ≡ k) × (c.full ≡ full)) }
     ensures refused { IfErr result (λ e. IsFirstRefusal k program e) }
 {
     check_names(alloc, &program)?;
     check_types(alloc, &program)?;
     check_rest(alloc, k, &program)?;
-    match with_lists(alloc, program, k) {
+    match with_lists(alloc, program, k, full) {
         Ok(checked) => Ok(checked),
         Err(_) => Err(Refusal::OutOfMemory),
     }

@@ -96,6 +96,7 @@ first_type tn.Unsigned p = unsigned p
 first_type tn.Void p = void p
 first_type tn.Thread p = thread p
 first_type tn.Mutex p = mutex p
+first_type tn.Cond p = cond p
 
 -- one word more behind `signed`, `unsigned` and `void`
 some_if : (b : Bool) (x j : TypeWord) → cond b (Some x) None ≡ Some j → (b ≡ true) × (x ≡ j)
@@ -132,6 +133,7 @@ first_grows tn.Void p may = void_grows p
 first_grows tn.Int p may = absurd (false≢true may)
 first_grows tn.Thread p may = absurd (false≢true may)
 first_grows tn.Mutex p may = absurd (false≢true may)
+first_grows tn.Cond p may = absurd (false≢true may)
 
 typed_good : {f n : ℕ} (k : TypeName) (t : Token) (s : List Frame) {p : List Token} {m : ℕ} → t ≡ word (type_text k) t.place → Holds f n s p m → GoodNext f n (typed k s) (p ++ t ∷ [])
 typed_good k t [] is h = tt

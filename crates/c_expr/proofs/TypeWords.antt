@@ -37,6 +37,7 @@ type_parts (void p) = parts (word (codes "void") p) [] refl (record { name = tn.
 type_parts (pointer p q) = parts (word (codes "void") p) (mark (codes "*") q ∷ []) refl (record { name = tn.Void; is = refl; rest = grows refl })
 type_parts (thread p) = parts (word (codes "pthread_t") p) [] refl (record { name = tn.Thread; is = refl; rest = whole })
 type_parts (mutex p) = parts (word (codes "pthread_mutex_t") p) [] refl (record { name = tn.Mutex; is = refl; rest = whole })
+type_parts (cond p) = parts (word (codes "pthread_cond_t") p) [] refl (record { name = tn.Cond; is = refl; rest = whole })
 
 -- a type is a first word and what may follow it
 pub types_by_words : TypesByWords

@@ -72,6 +72,7 @@ pub data IsType : List Token → TypeWord → Type 0 where
   pointer : (p q : Place) → IsType (word (codes "void") p ∷ mark (codes "*") q ∷ []) type.VoidPointer
   thread : (p : Place) → IsType (word (codes "pthread_t") p ∷ []) type.Thread
   mutex : (p : Place) → IsType (word (codes "pthread_mutex_t") p ∷ []) type.Mutex
+  cond : (p : Place) → IsType (word (codes "pthread_cond_t") p ∷ []) type.Cond
 
 -- the value of a number's text; a text that spells no value is no token of a list that is read, and has 0
 abbrev pub value_in : List ℕ → ℕ

@@ -19,6 +19,7 @@ first_word name.Unsigned = type.Uint
 first_word name.Void = type.Void
 first_word name.Thread = type.Thread
 first_word name.Mutex = type.Mutex
+first_word name.Cond = type.Cond
 
 -- whether one word more may belong to the type
 abbrev pub may_grow : TypeName → Bool
@@ -28,6 +29,7 @@ may_grow name.Unsigned = true
 may_grow name.Void = true
 may_grow name.Thread = false
 may_grow name.Mutex = false
+may_grow name.Cond = false
 
 abbrev pub is_int : Word → Bool
 is_int (w.Type name.Int) = true

@@ -71,6 +71,7 @@ type_text type.Unsigned = codes "unsigned"
 type_text type.Void = codes "void"
 type_text type.Thread = codes "pthread_t"
 type_text type.Mutex = codes "pthread_mutex_t"
+type_text type.Cond = codes "pthread_cond_t"
 
 -- the spelling of the words of statements and items
 abbrev pub keyword_text : Keyword → List ℕ
@@ -127,7 +128,7 @@ marks =
 abbrev pub reserved_words : List Word
 reserved_words =
     w.Type type.Int ∷ w.Type type.Signed ∷ w.Type type.Unsigned ∷ w.Type type.Void ∷ w.Type type.Thread ∷
-    w.Type type.Mutex ∷ w.Keyword keyword.Static ∷ w.Keyword keyword.If ∷ w.Keyword keyword.Else ∷
+    w.Type type.Mutex ∷ w.Type type.Cond ∷ w.Keyword keyword.Static ∷ w.Keyword keyword.If ∷ w.Keyword keyword.Else ∷
     w.Keyword keyword.While ∷ w.Keyword keyword.Do ∷ w.Keyword keyword.For ∷ w.Keyword keyword.Return ∷
     w.Keyword keyword.Break ∷ w.Keyword keyword.Continue ∷ []
 

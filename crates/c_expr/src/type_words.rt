@@ -15,6 +15,7 @@ pub fn first_word(name: TypeName) -> TypeWord
         TypeName::Void => TypeWord::Void,
         TypeName::Thread => TypeWord::Thread,
         TypeName::Mutex => TypeWord::Mutex,
+        TypeName::Cond => TypeWord::Cond,
     }
 }
 

@@ -21,6 +21,8 @@ pub enum TypeName {
     Thread,
     /// `pthread_mutex_t`
     Mutex,
+    /// `pthread_cond_t`
+    Cond,
 }
 
 /// A word of statements and items.
@@ -137,13 +139,14 @@ const MARKS: [Word; 43] = [
     Word::Assign(AssignOp::With(BinaryOp::ShiftRight)),
 ];
 
-const RESERVED: [Word; 15] = [
+const RESERVED: [Word; 16] = [
     Word::Type(TypeName::Int),
     Word::Type(TypeName::Signed),
     Word::Type(TypeName::Unsigned),
     Word::Type(TypeName::Void),
     Word::Type(TypeName::Thread),
     Word::Type(TypeName::Mutex),
+    Word::Type(TypeName::Cond),
     Word::Keyword(Keyword::Static),
     Word::Keyword(Keyword::If),
     Word::Keyword(Keyword::Else),
@@ -165,6 +168,7 @@ fn type_text(name: TypeName) -> &'static [u8]
         TypeName::Void => b"void",
         TypeName::Thread => b"pthread_t",
         TypeName::Mutex => b"pthread_mutex_t",
+        TypeName::Cond => b"pthread_cond_t",
     }
 }
 

@@ -21,7 +21,7 @@ program_plain text program r once =
     }
 
 pub names_are_plain : NamesArePlain
-names_are_plain bound text p a =
+names_are_plain bound full text p a =
     let plain = program_plain text p.program a.read a.checked.well_formed.once in
     let functions : HasPlainNames p.functions (cell_names (cells_of p.program)) = subst (λ (fs : List (List ℕ)). HasPlainNames fs (cell_names (cells_of p.program))) (sym a.checked.functions) plain in
     subst (λ (cells : List CellInfo). HasPlainNames p.functions (cell_names cells)) (sym a.checked.cells) functions

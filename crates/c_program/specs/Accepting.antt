@@ -1,5 +1,5 @@
 -- Which checked program a text is, and why a text is refused.
-use Rattle.std.specs.Prelude.{◌≡◌, ◌≢◌, ℕ, List, Ok, Err}
+use Rattle.std.specs.Prelude.{◌≡◌, ◌≢◌, ℕ, Bool, List, Ok, Err}
 use Rattle.dg_base.specs.declared.Place.{Place}
 use Rattle.dg_base.specs.declared.refusal.Refusal.{Refusal}
 use Rattle.dg_base.specs.declared.refusal.Refusal.TheVariants.{Syntax, OutOfMemory}
@@ -17,11 +17,12 @@ pub record IsRead (text : List ℕ) (program : Program) : Type 0 where
   pub lexed : answer text ≡ Ok tokens
   pub read : ReadsProgram tokens.list program
 
--- the text is this program, checked for the bound
-pub record IsAccepted (bound : ℕ) (text : List ℕ) (p : Checked) : Type 0 where
+-- the text is this program, checked for the bound, with spent bounds told or not
+pub record IsAccepted (bound : ℕ) (full : Bool) (text : List ℕ) (p : Checked) : Type 0 where
   pub read : IsRead text p.program
   pub checked : IsChecked p
   pub for_bound : p.k ≡ bound
+  pub for_full : p.full ≡ full
 
 -- The first refusal of a text, in this order: of its tokens (too long, a bad byte, a word that is not supported, a long macro,
 -- too many tokens); of the grammar; of the checks on the program (names, types, sections, recursion, limits).
@@ -36,15 +37,15 @@ OneProgramOfText = (text : List ℕ) (x y : Program) → IsRead text x → IsRea
 
 -- no text is both accepted and refused for a bound
 abbrev pub NotBoth : Type 0
-NotBoth = (bound : ℕ) (text : List ℕ) (p : Checked) (e : Refusal) → IsAccepted bound text p → IsRefused bound text e → ⊥
+NotBoth = (bound : ℕ) (full : Bool) (text : List ℕ) (p : Checked) (e : Refusal) → IsAccepted bound full text p → IsRefused bound text e → ⊥
 
 -- what is accepted has plain names
 abbrev pub NamesArePlain : Type 0
-NamesArePlain = (bound : ℕ) (text : List ℕ) (p : Checked) → IsAccepted bound text p → HasPlainNames p.functions (cell_names p.cells)
+NamesArePlain = (bound : ℕ) (full : Bool) (text : List ℕ) (p : Checked) → IsAccepted bound full text p → HasPlainNames p.functions (cell_names p.cells)
 
 -- a text has one checked program at most
 abbrev pub OneChecked : Type 0
-OneChecked = (bound : ℕ) (text : List ℕ) (p q : Checked) → IsAccepted bound text p → IsAccepted bound text q → p ≡ q
+OneChecked = (bound : ℕ) (full : Bool) (text : List ℕ) (p q : Checked) → IsAccepted bound full text p → IsAccepted bound full text q → p ≡ q
 
 -- a text has one refusal at most
 abbrev pub OneRefusal : Type 0

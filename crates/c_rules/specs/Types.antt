@@ -23,7 +23,7 @@ use Rattle.c_rules.specs.Walk.{walk_program, declare}
 use Rattle.c_rules.specs.Scopes.{First, unless, first_of, Rules, rule_walk, mutex_start, is_mutex}
 use Rattle.c_rules.specs.BuiltIns.{role_of, values, argument_count, has_value}
 
--- a type of values: Int and Uint, as which `void *` and `pthread_t` are read
+-- a type of values: Int and Uint, as which `void *` and `pthread_t` are read; a condition variable is none, and no rule lets it stand anywhere
 abbrev pub is_value_type : TypeWord → Bool
 is_value_type type.Int = true
 is_value_type type.Uint = true
@@ -31,6 +31,7 @@ is_value_type type.Void = false
 is_value_type type.VoidPointer = true
 is_value_type type.Thread = true
 is_value_type type.Mutex = false
+is_value_type type.Cond = false
 
 abbrev pub is_void : TypeWord → Bool
 is_void type.Void = true

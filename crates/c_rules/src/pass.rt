@@ -235,6 +235,7 @@ pub(crate) fn is_mutex(word: TypeWord) -> bool
 {
     match word {
         TypeWord::Mutex => true,
+        TypeWord::Cond => false,
         TypeWord::Int => false,
         TypeWord::Uint => false,
         TypeWord::Void => false,

@@ -19,6 +19,7 @@ pub(crate) fn is_value_type(word: TypeWord) -> bool
         TypeWord::VoidPointer => true,
         TypeWord::Thread => true,
         TypeWord::Mutex => false,
+        TypeWord::Cond => false,
     }
 }
 

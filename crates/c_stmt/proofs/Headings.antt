@@ -55,6 +55,7 @@ none_grown v type.Void j a b is = let bad : None ≡ Some j = sym (ap (λ c. con
 none_grown v type.VoidPointer j a b is = let bad : None ≡ Some j = is in cc
 none_grown v type.Thread j a b is = let bad : None ≡ Some j = is in cc
 none_grown v type.Mutex j a b is = let bad : None ≡ Some j = is in cc
+none_grown v type.Cond j a b is = let bad : None ≡ Some j = is in cc
 
 grows_goes : (v : Word) (t : Token) (h : Head) (qs : List Param) (k j : TypeWord) (xs : List Item) (s : List Frame) → grown v k ≡ Some j
     → machine.heading v t h 0 (params.Typed qs k true) xs s ≡ Go (At xs s (at.Heading h 0 (params.Typed qs j false)))

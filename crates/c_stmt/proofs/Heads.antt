@@ -68,6 +68,7 @@ void_of t name.Unsigned is bad = cc
 void_of t name.Void is v = subst (λ u. ReadsParameters (u ∷ []) []) (sym (spelled t (w.Type name.Void) is)) (void_alone t.place)
 void_of t name.Thread is bad = cc
 void_of t name.Mutex is bad = cc
+void_of t name.Cond is bad = cc
 
 first_params : {a : List Token} {ps : List Param} (t : Token) (k : TypeName) → word_of t ≡ w.Type k → Listed t [] (first_word k) a ps → ReadsParameters (t ∷ a) ps
 first_params {a = a} t k is (listed r same) = subst (ReadsParameters (t ∷ a)) (sym same) (some_parameters r)

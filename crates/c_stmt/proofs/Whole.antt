@@ -53,6 +53,7 @@ type_steps w.Name t place type.Void j xs s is = let bad : None ≡ Some j = is i
 type_steps w.Name t place type.VoidPointer j xs s is = let bad : None ≡ Some j = is in cc
 type_steps w.Name t place type.Thread j xs s is = let bad : None ≡ Some j = is in cc
 type_steps w.Name t place type.Mutex j xs s is = let bad : None ≡ Some j = is in cc
+type_steps w.Name t place type.Cond j xs s is = let bad : None ≡ Some j = is in cc
 type_steps v t place k j xs s is = ap (λ o. machine.grows place o xs s) is
 
 pub name_steps : (place : Site) (k : TypeWord) (more : Bool) (p : Place) (c : List ℕ) (xs : List Item) (s : List Frame) → IsName c → step (word c p) (At xs s (at.Typed place k more)) ≡ Go (At xs s (at.First place k p c))

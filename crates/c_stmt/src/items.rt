@@ -95,6 +95,7 @@ fn void_alone(params: List<Param>, kind: TypeWord, more: bool) -> Option<List<Pa
             TypeWord::VoidPointer => None,
             TypeWord::Thread => None,
             TypeWord::Mutex => None,
+            TypeWord::Cond => None,
         }
     } else {
         None

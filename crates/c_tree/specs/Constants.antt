@@ -19,6 +19,7 @@ constant_number v u = Some (record { value = v; unsigned = u })
 abbrev pub constant_cast : TypeWord → Option Constant → Option Constant
 constant_cast type.Void x = None
 constant_cast type.Mutex x = None
+constant_cast type.Cond x = None
 constant_cast w None = None
 constant_cast w (Some x) = constant_number x.value (word_unsigned w)
 

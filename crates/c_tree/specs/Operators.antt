@@ -20,6 +20,7 @@ word_unsigned type.Void = false
 word_unsigned type.VoidPointer = true
 word_unsigned type.Thread = true
 word_unsigned type.Mutex = false
+word_unsigned type.Cond = false
 
 abbrev pub unary_op : UnaryOp → Op
 unary_op unary.LogicNot = op.LogicNot

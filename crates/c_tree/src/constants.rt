@@ -22,6 +22,7 @@ fn cast(word: TypeWord, inner: Option<Constant>) -> Option<Constant>
     let unsigned = match word {
         TypeWord::Void => return None,
         TypeWord::Mutex => return None,
+        TypeWord::Cond => return None,
         TypeWord::Int => false,
         TypeWord::Uint => true,
         TypeWord::VoidPointer => true,

@@ -20,6 +20,8 @@ pub enum TypeWord {
     Thread,
     /// `pthread_mutex_t`.
     Mutex,
+    /// `pthread_cond_t`.
+    Cond,
 }
 
 /// An operator before its operand.

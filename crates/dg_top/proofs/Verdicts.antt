@@ -1,5 +1,5 @@
 -- From what is decided of a form to the answer.
-use Rattle.std.proofs.Common.{◌≡◌, ◌↔◌, ℕ, List, Option, Some, None, IfSome, refl, subst, sym}
+use Rattle.std.proofs.Common.{◌≡◌, ◌↔◌, ℕ, Bool, List, Option, Some, None, IfSome, refl, subst, sym}
 use Rattle.dg_base.specs.declared.Place.{Place}
 use Rattle.axiom_model.specs.declared.Candidate.{Candidate}
 use Rattle.axiom_model.specs.declared.MemoryModel.{MemoryModel}
@@ -22,5 +22,5 @@ pub told : (p : Checked) (o : Option FormVerdict) (v : FormVerdict) → IfSome o
 told p o v h e = subst (λ (o : Option FormVerdict). IfSome o (IsVerdictOf p)) e h
 
 -- the failing thread of the candidate's runs is that of the execution's
-pub first_of : (p : Checked) (m : MemoryModel) (c : Candidate) (x : ProgramFails p m c) (h : ℕ) (at : Place) → FailsFirst c (runs_of p c.threads) h at → FailsFirst c x.threads h at
-first_of p m c x h at first = subst (λ (rs : List Run). FailsFirst c rs h at) (sym (runs_are p c.threads x.threads x.whole)) first
+pub first_of : (p : Checked) (m : MemoryModel) (c : Candidate) (x : ProgramFails p m c) (h : ℕ) (at : Place) (bound : Bool) → FailsFirst c (runs_of p c.threads) h at bound → FailsFirst c x.threads h at bound
+first_of p m c x h at bound first = subst (λ (rs : List Run). FailsFirst c rs h at bound) (sym (runs_are p c.threads x.threads x.whole)) first

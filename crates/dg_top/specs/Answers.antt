@@ -1,5 +1,5 @@
 -- The answers of the top call: when each comes, its status, and what it prints.
-use Rattle.std.specs.Prelude.{◌≡◌, ◌≢◌, ℕ, nat_lt, List, [], ◌∷◌, ◌++◌, Option, Some, None, if◌then◌else◌, ◌==◌, IsTrue, codes, decimal, length, map, take}
+use Rattle.std.specs.Prelude.{◌≡◌, ◌≢◌, ℕ, nat_lt, Bool, true, false, List, [], ◌∷◌, ◌++◌, Option, Some, None, if◌then◌else◌, ◌==◌, IsTrue, codes, decimal, length, map, take}
 use Rattle.std.specs.List.{list_any}
 use Rattle.dg_base.specs.declared.Place.{Place}
 use Rattle.dg_base.specs.declared.refusal.Refusal.{Refusal}
@@ -29,10 +29,10 @@ use Rattle.dg_top.specs.Settings.{Word, files_of, settings_of}
 pub data Answer : Type 0 where
   -- no execution fails
   Safe : Answer
-  -- this candidate of this program is a failing execution; the handle and the place of the failing thread
-  Unsafe : Checked → Candidate → ℕ → Place → Answer
-  -- the witness is a failing execution; the handle and the place of the failing thread
-  Failing : ℕ → Place → Answer
+  -- this candidate of this program is a failing execution; the handle and the place of the failing thread, and whether it spends a bound there
+  Unsafe : Checked → Candidate → ℕ → Place → Bool → Answer
+  -- the witness is a failing execution; the same of its failing thread
+  Failing : ℕ → Place → Bool → Answer
   -- the witness is no failing execution of this program
   Rejected : Checked → Reject → Answer
   -- the words are not those of a job
@@ -54,23 +54,23 @@ IsDecided m p = (m ≡ Sc) × (form_of p.program ≢ None)
 pub data IsVerdict (m : MemoryModel) (p : Checked) : Answer → Type 0 where
   not_yet : (IsDecided m p → ⊥) → IsVerdict m p NotYet
   safe : IsDecided m p → ((c : Candidate) → ProgramFails p m c → ⊥) → IsVerdict m p Safe
-  unsafe : (c : Candidate) (handle : ℕ) (at : Place) → IsDecided m p → (x : ProgramFails p m c) → FailsFirst c x.threads handle at
-      → IsVerdict m p (Unsafe p c handle at)
+  unsafe : (c : Candidate) (handle : ℕ) (at : Place) (bound : Bool) → IsDecided m p → (x : ProgramFails p m c) → FailsFirst c x.allowed.threads handle at bound
+      → IsVerdict m p (Unsafe p c handle at bound)
 
 -- what is answered of a witness's text for a program under a model
 pub data IsReplay (m : MemoryModel) (p : Checked) (witness : List ℕ) : Answer → Type 0 where
   bad_witness : (line : ℕ) → Refuses p.functions (cell_names p.cells) witness line → IsReplay m p witness (BadWitness line)
-  failing : (c : Candidate) (handle : ℕ) (at : Place) → Spells p.functions (cell_names p.cells) c witness → (x : ProgramFails p m c)
-      → FailsFirst c x.threads handle at → IsReplay m p witness (Failing handle at)
+  failing : (c : Candidate) (handle : ℕ) (at : Place) (bound : Bool) → Spells p.functions (cell_names p.cells) c witness → (x : ProgramFails p m c)
+      → FailsFirst c x.allowed.threads handle at bound → IsReplay m p witness (Failing handle at bound)
   rejected : (c : Candidate) (e : Reject) → Spells p.functions (cell_names p.cells) c witness → IsFirstBroken p m c e → e ≢ reject.OutOfMemory
       → IsReplay m p witness (Rejected p e)
 
 -- what is answered of the texts of a job's files; a refusal of the program comes before all that is said of it
 pub data IsAnswer (s : Settings) : List (List ℕ) → Answer → Type 0 where
   refused : (text : List ℕ) (others : List (List ℕ)) (e : Refusal) → IsRefused s.bound text e → IsAnswer s (text ∷ others) (Refused e)
-  verified : (text : List ℕ) (p : Checked) (a : Answer) → s.job ≡ Verify → IsAccepted s.bound text p → IsVerdict s.model p a
+  verified : (text : List ℕ) (p : Checked) (a : Answer) → s.job ≡ Verify → IsAccepted s.bound s.full text p → IsVerdict s.model p a
       → IsAnswer s (text ∷ []) a
-  replayed : (text witness : List ℕ) (p : Checked) (a : Answer) → s.job ≡ Replay → IsAccepted s.bound text p → IsReplay s.model p witness a
+  replayed : (text witness : List ℕ) (p : Checked) (a : Answer) → s.job ≡ Replay → IsAccepted s.bound s.full text p → IsReplay s.model p witness a
       → IsAnswer s (text ∷ witness ∷ []) a
 
 -- the first of the names whose file is too long
@@ -90,8 +90,8 @@ pub data Allowed (words : List Word) (files : List FileEntry) : Answer → Type 
 
 abbrev pub status_of : Answer → ℕ
 status_of Safe = 0
-status_of (Unsafe p c handle at) = 1
-status_of (Failing handle at) = 0
+status_of (Unsafe p c handle at bound) = 1
+status_of (Failing handle at bound) = 0
 status_of (Rejected p e) = 1
 status_of BadWords = 3
 status_of (Refused e) = 4
@@ -102,14 +102,18 @@ status_of (LongFile name) = 4
 abbrev pub line_feed : List ℕ
 line_feed = 10 ∷ []
 
--- `WORD thread H at L:C`
-abbrev pub failing_line : List ℕ → ℕ → Place → List ℕ
-failing_line word handle at = word ++ codes " thread " ++ decimal handle ++ codes " at " ++ place_text at ++ line_feed
+abbrev pub bound_text : Bool → List ℕ
+bound_text true = codes " bound"
+bound_text false = []
+
+-- `WORD thread H at L:C`, or where a bound is spent `WORD bound thread H at L:C`
+abbrev pub failing_line : List ℕ → ℕ → Place → Bool → List ℕ
+failing_line word handle at bound = word ++ bound_text bound ++ codes " thread " ++ decimal handle ++ codes " at " ++ place_text at ++ line_feed
 
 abbrev pub text_of : Answer → List ℕ
 text_of Safe = codes "SAFE" ++ line_feed
-text_of (Unsafe p c handle at) = failing_line (codes "UNSAFE") handle at ++ witness_text p.functions (cell_names p.cells) c
-text_of (Failing handle at) = failing_line (codes "FAILING") handle at
+text_of (Unsafe p c handle at bound) = failing_line (codes "UNSAFE") handle at bound ++ witness_text p.functions (cell_names p.cells) c
+text_of (Failing handle at bound) = failing_line (codes "FAILING") handle at bound
 text_of (Rejected p e) = codes "REFUSED " ++ reject_text (cell_names p.cells) e ++ line_feed
 text_of BadWords = codes "words Form" ++ line_feed
 text_of (Refused e) = codes "refused " ++ refusal_text e ++ line_feed

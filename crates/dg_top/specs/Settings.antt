@@ -91,8 +91,9 @@ are_files Verify (a ∷ ws) = is_file a
 are_files Replay (a ∷ b ∷ ws) = is_file a && is_file b
 are_files _ _ = false
 
+-- no words ask for spent bounds to be told yet
 abbrev pub settled : Job → Options → Settings
-settled j o = record { job = j; model = model_or o.model; bound = bound_or o.bound }
+settled j o = record { job = j; model = model_or o.model; bound = bound_or o.bound; full = false }
 
 -- the job on files, with the options behind them
 abbrev pub job_with : Job → List Word → Option Settings

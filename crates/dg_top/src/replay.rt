@@ -65,7 +65,7 @@ fn replay_candidate(
 {
     let _witness = witness;
     match check_execution(alloc, checked, model, candidate) {
-        Ok(failing) => failing_at(alloc, failing.handle, failing.place),
+        Ok(failing) => failing_at(alloc, failing.handle, failing.place, failing.bound),
         Err(why) => reject(alloc, checked, &why),
     }
 }
@@ -99,7 +99,7 @@ pub fn replay(
     requires bound { (1 ≤ settings.now.bound) × (settings.now.bound ≤ 64) }
     ensures { IfOk result (IsOneOf (IsAnswer settings.now (text.now ∷ witness.now ∷ []))) }
 {
-    match read_program(alloc, text, settings.bound) {
+    match read_program(alloc, text, settings.bound, settings.full) {
         Ok(checked) => {
             names_are_plain();
             replay_witness(alloc, settings.model, &checked, witness)

@@ -101,23 +101,29 @@ pub fn unsafe_at(
     candidate: &Candidate,
     handle: u32,
     place: Place,
+    bound: bool,
 ) -> Result<Reply, OutOfMemory>
     requires { IsSpellable checked.now.functions (cell_names checked.now.cells) candidate.now }
-    ensures { IfOk result (Spells (answers.Unsafe checked.now candidate.now handle place)) }
+    ensures { IfOk result (Spells (answers.Unsafe checked.now candidate.now handle place bound)) }
 {
     let witness = print_witness(alloc, checked, candidate)?;
     let mut text = Vec::new(alloc);
-    put_failing_line(&mut text, b"UNSAFE", handle, place)?;
+    put_failing_line(&mut text, b"UNSAFE", handle, place, bound)?;
     put(&mut text, witness.as_slice())?;
     Ok(Reply { status: 1, text })
 }
 
 /// The witness is a failing execution.
-pub fn failing_at(alloc: Global, handle: u32, place: Place) -> Result<Reply, OutOfMemory>
-    ensures { IfOk result (Spells (Failing handle place)) }
+pub fn failing_at(
+    alloc: Global,
+    handle: u32,
+    place: Place,
+    bound: bool,
+) -> Result<Reply, OutOfMemory>
+    ensures { IfOk result (Spells (Failing handle place bound)) }
 {
     let mut text = Vec::new(alloc);
-    put_failing_line(&mut text, b"FAILING", handle, place)?;
+    put_failing_line(&mut text, b"FAILING", handle, place, bound)?;
     Ok(Reply { status: 0, text })
 }
 

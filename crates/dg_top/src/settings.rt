@@ -33,6 +33,8 @@ pub struct Settings {
     pub model: MemoryModel,
     /// How often a loop runs at most; 2 where nothing is said.
     pub bound: u32,
+    /// Whether a loop that uses up its bound fails. No words ask for it yet.
+    pub full: bool,
 }
 
 fn model_named(word: &str) -> Option<MemoryModel>
@@ -197,6 +199,7 @@ fn settled(job: Job, options: Options) -> Settings
         job,
         model: options.model.unwrap_or(MemoryModel::Sc),
         bound: options.bound.unwrap_or(2),
+        full: false,
     }
 }
 

@@ -31,16 +31,20 @@ pub fn put_place(out: &mut Vec<u8>, place: Place) -> Result<(), OutOfMemory>
     put_number(out, place.col)
 }
 
-/// Appends `WORD thread H at L:C`, as a line.
+/// Appends `WORD thread H at L:C`, or where a bound is spent `WORD bound thread H at L:C`, as a line.
 pub fn put_failing_line(
     out: &mut Vec<u8>,
     word: &[u8],
     handle: u32,
     at: Place,
+    bound: bool,
 ) -> Result<(), OutOfMemory>
-    ensures { OnOk result (out.new.items ≡ out.old.items ++ failing_line word.now handle at) }
+    ensures { OnOk result (out.new.items ≡ out.old.items ++ failing_line word.now handle at bound) }
 {
     put(out, word)?;
+    if bound {
+        put(out, b" bound")?;
+    }
     put(out, b" thread ")?;
     put_number(out, handle)?;
     put(out, b" at ")?;

@@ -27,6 +27,7 @@ fn decide_sequential(alloc: Global, checked: &Checked) -> Result<Reply, OutOfMem
             &failure.candidate,
             failure.handle,
             failure.place,
+            false,
         ),
         None => not_yet(alloc),
     }
@@ -50,7 +51,7 @@ pub fn verify(alloc: Global, settings: &Settings, text: &[u8]) -> Result<Reply, 
     requires bound { (1 ≤ settings.now.bound) × (settings.now.bound ≤ 64) }
     ensures { IfOk result (IsOneOf (IsAnswer settings.now (text.now ∷ []))) }
 {
-    match read_program(alloc, text, settings.bound) {
+    match read_program(alloc, text, settings.bound, settings.full) {
         Ok(checked) => decide(alloc, settings.model, &checked),
         Err(refusal) => refuse(alloc, &refusal),
     }

@@ -1,5 +1,5 @@
 -- The runs of a candidate's threads, and what is wrong with the first that is not good.
-use Rattle.std.proofs.Common.{◌≡◌, ◌≢◌, ℕ, zero, suc, ◌<◌, List, [], ◌∷◌, length, Bool, true, false, cond, Option, Some, None, refl, sym, ap, ◌∙◌, subst, ⊎_elim, arith}
+use Rattle.std.proofs.Common.{◌≡◌, ◌≢◌, ℕ, zero, suc, ◌<◌, List, [], ◌∷◌, length, Bool, true, false, cond, Option, Some, None, refl, sym, ap, ◌∙◌, subst, ◌⊎◌, inl, inr, ⊎_elim, arith}
 use Rattle.std.specs.Prelude.{slice_get, nat_eq}
 use Rattle.std.proofs.lemmas.Bool.{cases_Bool, eqb-true, eqb-false, eq-eqb, ne_eqb, cond-true, cond-false}
 use Rattle.std.proofs.lemmas.Option.{none-some, same_Some}
@@ -7,7 +7,7 @@ use Rattle.dg_base.specs.declared.Place.{Place}
 use Rattle.axiom_model.specs.declared.MemoryModel.{MemoryModel}
 use Rattle.axiom_model.specs.declared.ThreadPart.{ThreadPart}
 use Rattle.axiom_model.specs.declared.Candidate.{Candidate}
-use Rattle.axiom_model.specs.Failing.{Run}
+use Rattle.axiom_model.specs.Failing.{Run, failed_by}
 use Rattle.c_check.specs.declared.checked.Checked.{Checked}
 use Rattle.run_model.specs.declared.state.Halt.TheVariants.{Over, Short}
 use Rattle.run_model.specs.Steps.{Outcome, Goes, Halts}
@@ -20,7 +20,7 @@ use Rattle.exec_check.specs.First.{EachThread, FirstThread}
 use Rattle.exec_check.specs.Running.{run_told, run_by, runs_of}
 use Rattle.exec_check.specs.Conditions.{RunsWell, HasThreads}
 use Rattle.exec_check.specs.Broken.{IsFirstBroken}
-use Rattle.exec_check.specs.ThreadTests.{wrong_run, first_wrong, failing_at, first_failing}
+use Rattle.exec_check.specs.ThreadTests.{wrong_run, first_wrong, failing_at, first_failing, told_failing}
 use Rattle.exec_check.proofs.Shaped.{told_is}
 use Rattle.exec_check.proofs.Listed.{or_else-none, or_else-some}
 
@@ -106,44 +106,81 @@ wrong_is_broken p m c e h g =
 
 -- ---- the first that fails
 
--- the first failing thread, by its place
-pub record Fails (p : Checked) (ps : List ThreadPart) (f : Failing) : Type 0 where
+-- the first thread that fails an assertion, or with the flag spends a bound, by its place
+pub record Fails (bound : Bool) (p : Checked) (ps : List ThreadPart) (f : Failing) : Type 0 where
   pub place : ℕ
   pub part : ThreadPart
   pub there : slice_get ps place ≡ Some part
   pub handle_is : part.handle ≡ f.handle
-  pub fails : (run_by p part).failed ≡ Some f.place
-  pub before : (k : ℕ) (r : Run) → k < place → slice_get (runs_of p ps) k ≡ Some r → r.failed ≡ None
+  pub fails : failed_by bound (run_by p part) ≡ Some f.place
+  pub bound_is : f.bound ≡ bound
+  pub before : (k : ℕ) (r : Run) → k < place → slice_get (runs_of p ps) k ≡ Some r → failed_by bound r ≡ None
 
-failing-none : (t : ThreadPart) (o : Option Place) → failing_at t o ≡ None → o ≡ None
-failing-none t None e = refl
-failing-none t (Some at) e = cc
+failing-none : (t : ThreadPart) (b : Bool) (o : Option Place) → failing_at t b o ≡ None → o ≡ None
+failing-none t b None e = refl
+failing-none t b (Some at) e = cc
 
-failing-some : (t : ThreadPart) (o : Option Place) (f : Failing) → failing_at t o ≡ Some f → (t.handle ≡ f.handle) × (o ≡ Some f.place)
-failing-some t None f e = absurd (none-some f e)
-failing-some t (Some at) f e =
-    let g = same_Some (record { handle = t.handle; place = at }) f e in
-    (ap (λ (z : Failing). z.handle) g, ap (λ (z : Failing). Some z.place) g)
+failing-some : (t : ThreadPart) (b : Bool) (o : Option Place) (f : Failing) → failing_at t b o ≡ Some f → (t.handle ≡ f.handle) × (o ≡ Some f.place) × (f.bound ≡ b)
+failing-some t b None f e = absurd (none-some f e)
+failing-some t b (Some at) f e =
+    let g = same_Some (record { handle = t.handle; place = at; bound = b }) f e in
+    (ap (λ (z : Failing). z.handle) g, ap (λ (z : Failing). Some z.place) g, sym (ap (λ (z : Failing). z.bound) g))
 
-fails_on : (p : Checked) (u : ThreadPart) (ps : List ThreadPart) (f : Failing) → (run_by p u).failed ≡ None → Fails p ps f → Fails p (u ∷ ps) f
-fails_on p u ps f n r = record { place = suc r.place; part = r.part; there = r.there; handle_is = r.handle_is; fails = r.fails; before = before }
+fails_on : (b : Bool) (p : Checked) (u : ThreadPart) (ps : List ThreadPart) (f : Failing) → failed_by b (run_by p u) ≡ None → Fails b p ps f → Fails b p (u ∷ ps) f
+fails_on b p u ps f n r = record { place = suc r.place; part = r.part; there = r.there; handle_is = r.handle_is; fails = r.fails; bound_is = r.bound_is; before = before }
   where
-    before : (k : ℕ) (q : Run) → k < suc r.place → slice_get (runs_of p (u ∷ ps)) k ≡ Some q → q.failed ≡ None
-    before zero q l g = subst (λ z. z.failed ≡ None) (same_Some (run_by p u) q g) n
+    before : (k : ℕ) (q : Run) → k < suc r.place → slice_get (runs_of p (u ∷ ps)) k ≡ Some q → failed_by b q ≡ None
+    before zero q l g = subst (λ z. failed_by b z ≡ None) (same_Some (run_by p u) q g) n
     before (suc k) q l g = r.before k q (omega arith) g
 
-pub fails_first : (p : Checked) (ps : List ThreadPart) (f : Failing) → first_failing p ps ≡ Some f → Fails p ps f
-fails_first p [] f e = absurd (none-some f e)
-fails_first p (u ∷ ps) f e =
-    ⊎_elim (λ w. let h = failing-some u (run_by p u).failed f w in record { place = 0; part = u; there = refl; handle_is = h.0; fails = h.1; before = λ k r l g. absurd (omega arith) })
-    (λ w. fails_on p u ps f (failing-none u (run_by p u).failed w.0) (fails_first p ps f w.1))
-    (or_else-some (failing_at u (run_by p u).failed) (first_failing p ps) f e)
+pub fails_first : (b : Bool) (p : Checked) (ps : List ThreadPart) (f : Failing) → first_failing b p ps ≡ Some f → Fails b p ps f
+fails_first b p [] f e = absurd (none-some f e)
+fails_first b p (u ∷ ps) f e =
+    ⊎_elim (λ w. let h = failing-some u b (failed_by b (run_by p u)) f w in record { place = 0; part = u; there = refl; handle_is = h.0; fails = h.1; bound_is = h.2; before = λ k r l g. absurd (omega arith) })
+    (λ w. fails_on b p u ps f (failing-none u b (failed_by b (run_by p u)) w.0) (fails_first b p ps f w.1))
+    (or_else-some (failing_at u b (failed_by b (run_by p u))) (first_failing b p ps) f e)
 
-pub none_fails : (p : Checked) (ps : List ThreadPart) → first_failing p ps ≡ None → (k : ℕ) (r : Run) → slice_get (runs_of p ps) k ≡ Some r → r.failed ≡ None
-none_fails p [] e k r g = absurd (none-some r g)
-none_fails p (u ∷ ps) e zero r g =
-    subst (λ z. z.failed ≡ None) (same_Some (run_by p u) r g) (failing-none u (run_by p u).failed (or_else-none (failing_at u (run_by p u).failed) (first_failing p ps) e).0)
-none_fails p (u ∷ ps) e (suc k) r g = none_fails p ps (or_else-none (failing_at u (run_by p u).failed) (first_failing p ps) e).1 k r g
+-- no run fails in this way
+pub none_fails_by : (b : Bool) (p : Checked) (ps : List ThreadPart) → first_failing b p ps ≡ None → (k : ℕ) (r : Run) → slice_get (runs_of p ps) k ≡ Some r → failed_by b r ≡ None
+none_fails_by b p [] e k r g = absurd (none-some r g)
+none_fails_by b p (u ∷ ps) e zero r g =
+    subst (λ z. failed_by b z ≡ None) (same_Some (run_by p u) r g) (failing-none u b (failed_by b (run_by p u)) (or_else-none (failing_at u b (failed_by b (run_by p u))) (first_failing b p ps) e).0)
+none_fails_by b p (u ∷ ps) e (suc k) r g = none_fails_by b p ps (or_else-none (failing_at u b (failed_by b (run_by p u))) (first_failing b p ps) e).1 k r g
+
+neither : (b : Bool) (o : Option Place) → cond b None o ≡ None → cond b o None ≡ None → o ≡ None
+neither true o e f = f
+neither false o e f = e
+
+one_of : (b : Bool) (o : Option Place) (at : Place) → (cond b None o ≡ Some at) ⊎ (cond b o None ≡ Some at) → o ≡ Some at
+one_of true o at h = ⊎_elim (λ e. absurd (none-some at e)) (λ e. e) h
+one_of false o at h = ⊎_elim (λ e. e) (λ e. absurd (none-some at e)) h
+
+-- a run that fails in one of the two ways fails
+pub fails_somehow : (b : Bool) (r : Run) (at : Place) → failed_by b r ≡ Some at → r.failed ≡ Some at
+fails_somehow true r at e = one_of r.bound r.failed at (inr e)
+fails_somehow false r at e = one_of r.bound r.failed at (inl e)
+
+pub none_fails : (p : Checked) (ps : List ThreadPart) → told_failing p ps ≡ None → (k : ℕ) (r : Run) → slice_get (runs_of p ps) k ≡ Some r → r.failed ≡ None
+none_fails p ps e k r g =
+    let both = or_else-none (first_failing false p ps) (first_failing true p ps) e in
+    neither r.bound r.failed (none_fails_by false p ps both.0 k r g) (none_fails_by true p ps both.1 k r g)
+
+-- the thread that is told
+pub record Told (p : Checked) (ps : List ThreadPart) (f : Failing) : Type 0 where
+  pub first : Fails f.bound p ps f
+  pub no_assertion : f.bound ≡ true → (k : ℕ) (r : Run) → slice_get (runs_of p ps) k ≡ Some r → failed_by false r ≡ None
+
+told_by : (b : Bool) (p : Checked) (ps : List ThreadPart) (f : Failing) → Fails b p ps f → (b ≡ true → (k : ℕ) (r : Run) → slice_get (runs_of p ps) k ≡ Some r → failed_by false r ≡ None) → Told p ps f
+told_by b p ps f h none = record {
+  first = subst (λ z. Fails z p ps f) (sym h.bound_is) h;
+  no_assertion = λ e. none (sym h.bound_is ∙ e);
+}
+
+pub told : (p : Checked) (ps : List ThreadPart) (f : Failing) → told_failing p ps ≡ Some f → Told p ps f
+told p ps f e =
+    ⊎_elim (λ w. told_by false p ps f (fails_first false p ps f w) (λ no. absurd (let bad : ◌≡◌ {A = Bool} false true = no in cc)))
+    (λ w. told_by true p ps f (fails_first true p ps f w.1) (λ yes. none_fails_by false p ps w.0))
+    (or_else-some (first_failing false p ps) (first_failing true p ps) f e)
 
 -- ---- what `run_thread` says
 

@@ -23,10 +23,10 @@ use Rattle.exec_check.specs.declared.Failing.{Failing}
 use Rattle.exec_check.specs.First.{EachThread}
 use Rattle.exec_check.specs.Running.{run_by, runs_of, no_run, execution_in, shape}
 use Rattle.exec_check.specs.Conditions.{IsAboveAll, RunsWell, HasItsThread, HasItsSource, JoinsAnEnded, HasThreads, HasRuns, HasCreates, HasChildren, HasSources, HasOrders, IsExecution}
-use Rattle.exec_check.specs.ThreadTests.{seen_by, first_failing}
+use Rattle.exec_check.specs.ThreadTests.{seen_by, told_failing}
 use Rattle.exec_check.proofs.Listed.{at_image, image_at}
 use Rattle.exec_check.proofs.Shaped.{shape_is, told_is}
-use Rattle.exec_check.proofs.Ran.{fails_first}
+use Rattle.exec_check.proofs.Ran.{told, fails_somehow}
 
 -- ---- a candidate's threads and those of its execution
 
@@ -103,20 +103,21 @@ whole p (t ∷ ps) h =
     let w = h 0 t refl in
     ((sym (told_is p t) ∙ w.1 ∙ ap Some (sym (run_is p 0 t w)), ap (λ (r : Run). r.used) (run_is p 0 t w) ∙ w.2), whole p ps (λ k u e. h (suc k) u e))
 
-pub program_fails : (p : Checked) (m : MemoryModel) (c : Candidate) (f : Failing) → IsExecution p c → Consistent m (execution_in p c) → first_failing p c.threads ≡ Some f → ProgramFails p m c
+pub program_fails : (p : Checked) (m : MemoryModel) (c : Candidate) (f : Failing) → IsExecution p c → Consistent m (execution_in p c) → told_failing p c.threads ≡ Some f → ProgramFails p m c
 program_fails p m c f h ok e =
-    let r = fails_first p c.threads f e in
+    let r = (told p c.threads f e).first in
     record {
       threads = runs_of p c.threads;
       whole = whole p c.threads h.orders.sources.children.creates.runs.runs;
       well_made = subst (λ s. WellMade s (execution_in p c)) (shape_is p) (well_made p c h);
       consistent = ok;
-      fails = (r.place, run_by p r.part, f.place, at_image (run_by p) c.threads r.place r.part r.there, r.fails);
+      fails = (r.place, run_by p r.part, f.place, at_image (run_by p) c.threads r.place r.part r.there, fails_somehow f.bound (run_by p r.part) f.place r.fails);
     }
 
-pub first_to_fail : (p : Checked) (c : Candidate) (f : Failing) → first_failing p c.threads ≡ Some f → FailsFirst c (runs_of p c.threads) f.handle f.place
+pub first_to_fail : (p : Checked) (c : Candidate) (f : Failing) → told_failing p c.threads ≡ Some f → FailsFirst c (runs_of p c.threads) f.handle f.place f.bound
 first_to_fail p c f e =
-    let r = fails_first p c.threads f e in
+    let t = told p c.threads f e in
+    let r = t.first in
     record {
       number = r.place;
       part = r.part;
@@ -126,6 +127,7 @@ first_to_fail p c f e =
       handle_is = r.handle_is;
       fails = r.fails;
       not_before = r.before;
+      no_assertion = t.no_assertion;
     }
 
 -- ---- the other way

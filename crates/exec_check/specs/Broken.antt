@@ -42,7 +42,7 @@ FirstChild x h = (e : Event) × (f : ℕ) × (v : ℕ) × FirstEvent (AtAction x
 abbrev pub Forbids : Checked → MemoryModel → Candidate → Inconsistent → Type 0
 Forbids p m c i = IsExecution p c × IsEvidence m (execution_in p c) i
 
--- no run fails
+-- no run fails an assertion, or spends a bound that is told
 abbrev pub NoneFails : List Run → Type 0
 NoneFails rs = (k : ℕ) (r : Run) → slice_get rs k ≡ Some r → r.failed ≡ None
 

@@ -14,7 +14,7 @@ unfoldable pub run_told : Checked → ThreadPart → Option Run
 run_told p t = thread_run p t.function t.handle t.arg t.script
 
 abbrev pub no_run : Run
-no_run = record { actions = []; ended = false; bad = false; failed = None; used = 0 }
+no_run = record { actions = []; ended = false; bad = false; failed = None; bound = false; used = 0 }
 
 -- the same; no actions where the script is too short
 abbrev pub run_by : Checked → ThreadPart → Run

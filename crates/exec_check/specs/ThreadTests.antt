@@ -1,9 +1,9 @@
 -- What the code computes of a candidate's threads, by recursion over lists.
-use Rattle.std.specs.Prelude.{ℕ, ◌+◌, List, [], ◌∷◌, Bool, ◌&&◌, cond, Option, Some, None, length, nat_eq, nat_lt}
+use Rattle.std.specs.Prelude.{ℕ, ◌+◌, List, [], ◌∷◌, Bool, true, false, ◌&&◌, cond, Option, Some, None, length, nat_eq, nat_lt}
 use Rattle.dg_base.specs.declared.Place.{Place}
 use Rattle.axiom_model.specs.declared.ThreadPart.{ThreadPart}
 use Rattle.axiom_model.specs.Execution.{Thread}
-use Rattle.axiom_model.specs.Failing.{Run, thread_of}
+use Rattle.axiom_model.specs.Failing.{Run, thread_of, failed_by}
 use Rattle.c_rules.specs.Names.{or_else}
 use Rattle.c_check.specs.declared.checked.Checked.{Checked}
 use Rattle.exec_check.specs.declared.Failing.{Failing}
@@ -48,11 +48,16 @@ first_wrong p (t ∷ ts) = or_else (wrong_run t (run_told p t)) (first_wrong p t
 abbrev pub seen_by : Checked → ThreadPart → Thread
 seen_by p t = thread_of t (run_by p t)
 
--- a thread that fails at this place
-abbrev pub failing_at : ThreadPart → Option Place → Option Failing
-failing_at t None = None
-failing_at t (Some at) = Some (record { handle = t.handle; place = at })
+-- a thread that fails an assertion at this place, or with the flag spends a bound there
+abbrev pub failing_at : ThreadPart → Bool → Option Place → Option Failing
+failing_at t bound None = None
+failing_at t bound (Some at) = Some (record { handle = t.handle; place = at; bound = bound })
 
-abbrev pub first_failing : Checked → List ThreadPart → Option Failing
-first_failing p [] = None
-first_failing p (t ∷ ts) = or_else (failing_at t (run_by p t).failed) (first_failing p ts)
+-- the first thread that fails an assertion, or with the flag spends a bound
+abbrev pub first_failing : Bool → Checked → List ThreadPart → Option Failing
+first_failing bound p [] = None
+first_failing bound p (t ∷ ts) = or_else (failing_at t bound (failed_by bound (run_by p t))) (first_failing bound p ts)
+
+-- the thread that is told: the first that fails an assertion; where none does, the first that spends a bound
+abbrev pub told_failing : Checked → List ThreadPart → Option Failing
+told_failing p ts = or_else (first_failing false p ts) (first_failing true p ts)

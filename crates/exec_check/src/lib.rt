@@ -35,13 +35,15 @@ use dg_base::{List, Place};
 pub use laws::failing_executions_break_nothing;
 use std::alloc::Global;
 
-/// A thread that fails an assertion.
+/// A thread that fails.
 #[derive(Debug, Clone, Copy, PartialEq, Eq, Drop)]
 pub struct Failing {
     /// Which thread.
     pub handle: u32,
     /// Where in the text.
     pub place: Place,
+    /// Whether a loop used up its bound there; else an assertion failed.
+    pub bound: bool,
 }
 
 /// Why a candidate is not a failing execution: the first condition that it breaks, at the first place, by handle, index or
@@ -78,14 +80,14 @@ pub enum Reject {
     GlobalCycle(List<Event>),
     /// Such edges between different blocks, as pairs one after the other: each leads to the block where the next begins.
     BlockCycle(List<Event>),
-    /// No thread fails an assertion.
+    /// No thread fails an assertion, and none spends a bound that is told.
     NotFailing,
     /// Want of memory; also of numbers, where there are more actions of a thread than a u32 counts.
     OutOfMemory,
 }
 
-/// Whether the candidate is an execution of the program that the model allows and that fails an assertion; the failing
-/// thread with the least handle, or the first condition that is broken.
+/// Whether the candidate is an execution of the program that the model allows and that fails: the thread with the least handle
+/// that fails an assertion, or where none does the one that spends a bound; or the first condition that is broken.
 ///
 /// The time, beside that of the runs, is at most near the square of the number of actions, pairs, list entries and cells:
 /// each item is looked up among the others.
@@ -97,7 +99,7 @@ pub fn check_execution(
 ) -> Result<Failing, Reject>
     requires { IsChecked checked.now }
     ensures fails { IfOk result (λ f. ProgramFails checked.now model candidate.now) }
-    ensures first { IfOk result (λ f. FailsFirst candidate.now (runs_of checked.now candidate.now.threads) f.handle f.place) }
+    ensures first { IfOk result (λ f. FailsFirst candidate.now (runs_of checked.now candidate.now.threads) f.handle f.place f.bound) }
     ensures broken { IfErr result (IsFirstBroken checked.now model candidate.now) }
 {
     threads::check_threads(checked, candidate)?;

@@ -1,8 +1,8 @@
 //! The runs of a candidate's threads.
 
-ghost use Rattle.std.specs.Prelude.{◌≡◌, ◌⊎◌, map, length, Some, None, IfOk, IfErr, OnOk};
+ghost use Rattle.std.specs.Prelude.{◌≡◌, ◌⊎◌, map, length, Some, None, true, false, IfOk, IfErr, OnOk};
 ghost use Rattle.axiom_model.specs.declared.MemoryModel.{MemoryModel};
-ghost use Rattle.axiom_model.specs.Failing.{thread_of};
+ghost use Rattle.axiom_model.specs.Failing.{thread_of, failed_by};
 ghost use Rattle.c_rules.specs.Names.{or_else};
 ghost use Rattle.consistency.specs.Seen.{thread_seen, execution_seen};
 ghost use Rattle.run_model.specs.Threads as endings;
@@ -12,7 +12,7 @@ ghost use Rattle.exec_check.specs.First.{EachThread};
 ghost use Rattle.exec_check.specs.Running.{run_told, execution_in, shape};
 ghost use Rattle.exec_check.specs.Conditions.{IsKnown, HasThreads, HasRuns};
 ghost use Rattle.exec_check.specs.Broken.{IsFirstBroken};
-ghost use Rattle.exec_check.specs.ThreadTests.{wrong_run, first_wrong, seen_by, failing_at, first_failing};
+ghost use Rattle.exec_check.specs.ThreadTests.{wrong_run, first_wrong, seen_by, failing_at, told_failing};
 
 use crate::{Failing, Reject};
 use axiom_model::{Candidate, ThreadPart};
@@ -27,7 +27,7 @@ use std::alloc::Global;
 pub(crate) struct Ran {
     /// Each thread with its actions.
     pub threads: List<ThreadActions>,
-    /// The first that fails an assertion.
+    /// The first that fails an assertion; where none does, the first that spends a bound.
     pub failing: Option<Failing>,
 }
 
@@ -39,6 +39,7 @@ fn has_ended(ending: &Ending) -> bool
         Ending::Ended => true,
         Ending::Stopped => false,
         Ending::Failed(_) => false,
+        Ending::Bound(_) => false,
         Ending::Bad => false,
     }
 }
@@ -51,19 +52,39 @@ fn is_bad(ending: &Ending) -> bool
         Ending::Ended => false,
         Ending::Stopped => false,
         Ending::Failed(_) => false,
+        Ending::Bound(_) => false,
         Ending::Bad => true,
     }
 }
 
 // The thread, where it fails an assertion.
-fn failing(part: &ThreadPart, ending: &Ending) -> Option<Failing>
-    ensures { result ≡ failing_at part.now (endings.failed_at ending.now) }
+fn asserted(part: &ThreadPart, run: &ThreadRun) -> Option<Failing>
+    ensures { result ≡ failing_at part.now false (failed_by false (run_of run.now)) }
 {
-    match ending {
+    match &run.ending {
         Ending::Failed(place) => Some(Failing {
             handle: part.handle,
             place: *place,
+            bound: false,
         }),
+        Ending::Bound(_) => None,
+        Ending::Ended => None,
+        Ending::Stopped => None,
+        Ending::Bad => None,
+    }
+}
+
+// The thread, where it spends a bound that is told.
+fn spent(part: &ThreadPart, run: &ThreadRun) -> Option<Failing>
+    ensures { result ≡ failing_at part.now true (failed_by true (run_of run.now)) }
+{
+    match &run.ending {
+        Ending::Bound(place) => Some(Failing {
+            handle: part.handle,
+            place: *place,
+            bound: true,
+        }),
+        Ending::Failed(_) => None,
         Ending::Ended => None,
         Ending::Stopped => None,
         Ending::Bad => None,
@@ -121,21 +142,23 @@ fn run_parts(alloc: Global, checked: &Checked, parts: &[ThreadPart]) -> Result<R
     requires { EachThread (IsKnown (shape checked.now)) parts.now }
     ensures well { OnOk result (first_wrong checked.now parts.now ≡ None) }
     ensures seen { IfOk result (λ r. map thread_seen r.threads ≡ map (seen_by checked.now) parts.now) }
-    ensures failing { IfOk result (λ r. r.failing ≡ first_failing checked.now parts.now) }
+    ensures failing { IfOk result (λ r. r.failing ≡ told_failing checked.now parts.now) }
     ensures wrong { IfErr result (λ e. (e ≡ reject.OutOfMemory) ⊎ (first_wrong checked.now parts.now ≡ Some e)) }
 {
     let mut threads = List::new(alloc);
     let mut first: Option<Failing> = None;
+    let mut bound: Option<Failing> = None;
     for part in parts {
         let run = run_one(alloc, checked, part)?;
-        first = earlier(first, failing(part, &run.ending));
+        first = earlier(first, asserted(part, &run));
+        bound = earlier(bound, spent(part, &run));
         if threads.push(seen(part, run)).is_err() {
             return Err(Reject::OutOfMemory);
         }
     }
     Ok(Ran {
         threads,
-        failing: first,
+        failing: earlier(first, bound),
     })
 }
 
@@ -148,7 +171,7 @@ pub(crate) fn run_all(
     requires { HasThreads checked.now candidate.now }
     ensures runs { OnOk result (HasRuns checked.now candidate.now) }
     ensures seen { IfOk result (λ r. execution_seen r.threads candidate.now.rf candidate.now.co ≡ execution_in checked.now candidate.now) }
-    ensures failing { IfOk result (λ r. r.failing ≡ first_failing checked.now candidate.now.threads) }
+    ensures failing { IfOk result (λ r. r.failing ≡ told_failing checked.now candidate.now.threads) }
     ensures broken { (m : MemoryModel) → IfErr result (IsFirstBroken checked.now m candidate.now) }
 {
     run_parts(alloc, checked, candidate.threads.as_slice())

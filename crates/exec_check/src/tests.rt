@@ -27,7 +27,7 @@ fn answer(alloc: Global, checked: &Checked, text: &str, model: MemoryModel) -> R
 }
 
 fn told(alloc: Global, source: Source, text: &str, model: MemoryModel) -> Result<String, Fail> {
-    match check(alloc, program::program(alloc, source)?, 1) {
+    match check(alloc, program::program(alloc, source)?, 1, false) {
         Ok(checked) => answer(alloc, &checked, text, model),
         Err(refusal) => Ok(format!(in alloc; "{refusal:?}")?),
     }

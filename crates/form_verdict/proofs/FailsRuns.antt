@@ -34,7 +34,7 @@ main_actions gs v k = Start ∷ creating 1 gs ++ (joining 1 gs ++ reading v (suc
 
 -- a run that failed at this place
 abbrev pub fails_with : List Action → Place → ℕ → Run
-fails_with acts at used = record { actions = acts; ended = false; bad = false; failed = Some at; used = used }
+fails_with acts at used = record { actions = acts; ended = false; bad = false; failed = Some at; bound = false; used = used }
 
 -- main's run
 abbrev pub main_fails : List ℕ → ℕ → ℕ → FormCheck → Run
@@ -46,7 +46,7 @@ writer_actions ws = Start ∷ writing ws ++ End ∷ []
 
 -- the run of a created thread that writes these numbers
 abbrev pub writer_run : List ℕ → Run
-writer_run ws = record { actions = writer_actions ws; ended = true; bad = false; failed = None; used = 0 }
+writer_run ws = record { actions = writer_actions ws; ended = true; bad = false; failed = None; bound = false; used = 0 }
 
 -- the runs of the created threads
 abbrev pub created_runs : Form → List ℕ → List Run

@@ -30,7 +30,7 @@ use Rattle.form_verdict.proofs.Bodies.{ran, goes}
 
 -- the run that goes on behind these actions, with so many numbers used
 abbrev pub behind : List Action → ℕ → Run → Run
-behind acts used r = record { actions = acts ++ r.actions; ended = r.ended; bad = r.bad; failed = r.failed; used = used + r.used }
+behind acts used r = record { actions = acts ++ r.actions; ended = r.ended; bad = r.bad; failed = r.failed; bound = r.bound; used = used + r.used }
 
 -- an action that used a number moves to the front
 one_behind : (acts : List Action) (used : ℕ) (a : Action) (o : Option Run)

@@ -13,16 +13,16 @@ use Rattle.first_form.specs.declared.form.FormCheck.{FormCheck}
 
 -- a run without further actions that came to its end, that stopped, that made a choice that no execution makes, or that failed
 abbrev pub ended : Run
-ended = record { actions = End ∷ []; ended = true; bad = false; failed = None; used = 0 }
+ended = record { actions = End ∷ []; ended = true; bad = false; failed = None; bound = false; used = 0 }
 
 abbrev pub stopped : Run
-stopped = record { actions = []; ended = false; bad = false; failed = None; used = 0 }
+stopped = record { actions = []; ended = false; bad = false; failed = None; bound = false; used = 0 }
 
 abbrev pub bad : Run
-bad = record { actions = []; ended = false; bad = true; failed = None; used = 0 }
+bad = record { actions = []; ended = false; bad = true; failed = None; bound = false; used = 0 }
 
 abbrev pub failed : FormCheck → Run
-failed c = record { actions = []; ended = false; bad = false; failed = Some c.place; used = 0 }
+failed c = record { actions = []; ended = false; bad = false; failed = Some c.place; bound = false; used = 0 }
 
 -- these actions, then the run
 abbrev pub acting : List Action → Run → Run

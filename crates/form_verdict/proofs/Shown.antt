@@ -1,5 +1,5 @@
 -- What the search finds, in the words of the whole language.
-use Rattle.std.proofs.Common.{◌≡◌, List, arith, refl, sym, subst}
+use Rattle.std.proofs.Common.{◌≡◌, List, Bool, true, false, arith, refl, sym, subst}
 use Rattle.std.specs.List.{AllZip}
 use Rattle.dg_base.specs.declared.Place.{Place}
 use Rattle.axiom_model.specs.declared.Candidate.{Candidate}
@@ -25,7 +25,7 @@ abbrev shown : Form → Failure → Candidate
 shown f x = execution_with f x.event x.value x.check
 
 -- main has the least handle
-main_fails_first : (f : Form) → IsProgram f → (x : Failure) (p : IsFailure f x) (rs : List Run) → AllZip (RunsTo (form_runs f)) (shown f x).threads rs → FailsFirst (shown f x) rs 0 p.check.place
+main_fails_first : (f : Form) → IsProgram f → (x : Failure) (p : IsFailure f x) (rs : List Run) → AllZip (RunsTo (form_runs f)) (shown f x).threads rs → FailsFirst (shown f x) rs 0 p.check.place false
 main_fails_first f program x p rs whole =
     let first = first_run_fails f program x.event x.value p.final x.check p.check p.is_check p.other p.first rs whole in
     record {
@@ -37,6 +37,7 @@ main_fails_first f program x p rs whole =
       handle_is = refl;
       fails = first.2;
       not_before = λ k r less e. absurd (omega arith);
+      no_assertion = λ yes. absurd (let no : ◌≡◌ {A = Bool} false true = yes in cc);
     }
 
 -- a failure of main

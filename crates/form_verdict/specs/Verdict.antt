@@ -1,4 +1,5 @@
 -- What is decided of a program of the first form, under sequential consistency.
+use Rattle.std.specs.Prelude.{false}
 use Rattle.axiom_model.specs.declared.MemoryModel.TheVariants.{Sc}
 use Rattle.axiom_model.specs.declared.Candidate.{Candidate}
 use Rattle.axiom_model.specs.Failing.{FailsFirst}
@@ -12,7 +13,7 @@ use Rattle.form_verdict.specs.declared.verdict.FormVerdict.TheVariants.{Safe, Un
 -- the candidate is a failing execution of the program, which fails first at that place, and has a text
 pub record IsFormFailure (p : Checked) (f : FormFailure) : Type 0 where
   pub fails : ProgramFails p Sc f.candidate
-  pub first : FailsFirst f.candidate fails.threads f.handle f.place
+  pub first : FailsFirst f.candidate fails.threads f.handle f.place false
   pub spellable : IsSpellable p.functions (cell_names p.cells) f.candidate
 
 -- what each verdict says of the program

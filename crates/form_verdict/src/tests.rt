@@ -172,7 +172,7 @@ fn program(alloc: Global, row: &Row) -> Result<Program, AllocError> {
 /// The verdict on the row's program; None for want of memory, or where the program is refused.
 fn verdict(alloc: Global, row: &Row) -> Option<Option<FormVerdict>> {
     let program = program(alloc, row).ok()?;
-    let checked = check(alloc, program, 2).ok()?;
+    let checked = check(alloc, program, 2, false).ok()?;
     decide_form(alloc, &checked).ok()
 }
 

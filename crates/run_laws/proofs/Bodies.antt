@@ -36,11 +36,11 @@ use Rattle.run_model.specs.declared.state.Slot.{Slot}
 use Rattle.run_model.specs.declared.state.Slot.TheVariants.{Own}
 use Rattle.run_model.specs.Steps.{Step, ◌>>=◌, ◌>>◌, pure, nothing, look, change, take_number, begin_section, end_section}
 use Rattle.run_model.specs.Cells.{write, slot}
-use Rattle.run_model.specs.Calls.{Meaning, Context}
+use Rattle.run_model.specs.Calls.{Meaning, Context, spend}
 use Rattle.run_model.specs.Meaning.{expr_step, meaning, eval}
 use Rattle.run_model.specs.Statements.{then_next, scoped, turns, first_values, store_from, enter as enter_local, declare_one, declare_all, eval_if, begin_for, stmt_step, execute, execute_all}
 use Rattle.run_model.specs.Threads.{parameters, result_of, run_body, is_atomic, in_section, call_body}
-use Rattle.run_model.proofs.Kept.{kept_begin, kept_finish_section, kept_slot}
+use Rattle.run_model.proofs.Kept.{kept_spend, kept_begin, kept_finish_section, kept_slot}
 use Rattle.run_model.proofs.Handles.{Numbers, numbers_keeps}
 use Rattle.run_laws.proofs.Growing.{Within, within_more, within_then, within_cond, within_pure, within_look, within_locals, within_none}
 use Rattle.run_laws.proofs.Meanings.{Limited, limited_lvalue, behind, before, writes}
@@ -155,6 +155,7 @@ module _ (q : ℕ → Type 0) (top : ℕ) (cx : Context) (body : Name → Counts
   begins_within s l type.Void n None e h = store_taken_within l 0 n
   begins_within s l type.VoidPointer n None e h = store_taken_within l 0 n
   begins_within s l type.Mutex n None e h = store_taken_within l 0 n
+  begins_within s l type.Cond n None e h = store_taken_within l 0 n
   begins_within s l w n (Some (One x)) e h =
       store_within (counts_in exact body s x).creates 0 (counts_at_start exact body s (Some (One x))).creates l 0 (eval cx x) nothing (omega arith)
       (first_within s w x e (right_of 0 (counts_in exact body s x).most top h)) (within_pure q 0 (Unit {0}) tt)
@@ -188,17 +189,20 @@ module _ (q : ℕ → Type 0) (top : ℕ) (cx : Context) (body : Name → Counts
 
   -- ---- statements
 
-  turns_within : (t e : Option Expr) (m : Step Flow) (s : Scope) (n : ℕ) → found_test typed t s ≡ None → found_value typed e s ≡ None → (found_test counted t s).most ≤ top → (found_value counted e s).most ≤ top → Within q n Flow m
-      → Within q ((cx.setting.turns + 1) * (found_test counted t s).creates + (cx.setting.turns * (found_value counted e s).creates + cx.setting.turns * n)) Flow (turns cx t e m)
-  turns_within t e m s n a b c d h =
-      loop_within q (found_test counted t s).creates n (found_value counted e s).creates cx.setting.turns (eval_if cx 1 t) m (eval_if cx 0 e >> nothing) (test_within t s a c) h
-      (behind q (found_value counted e s).creates ℕ (Unit {0}) (eval_if cx 0 e) (λ _. nothing) (value_within e s b d) (λ _. within_pure q 0 (Unit {0}) tt))
-
   scoped_within : (n : ℕ) (m : Step Flow) → Within q n Flow m → Within q n Flow (scoped m)
   scoped_within n m h =
       before q n ℕ Flow (look (λ s. length s.locals)) _ (within_look q 0 ℕ (λ s. length s.locals)) (λ k.
       behind q n Flow Flow m _ h (λ f.
       before q 0 (Unit {0}) Flow (change (λ s. record s { locals = take k s.locals })) (λ _. pure f) (within_locals q 0 (λ ls. take k ls)) (λ _. within_pure q 0 Flow f)))
+
+  spent_within : (p : Place) → Within q 0 Flow (spend cx.setting p)
+  spent_within p = within_none q 0 Flow (spend cx.setting p) (λ own. kept_spend own (Numbers own) (numbers_keeps own) Flow cx.setting p)
+
+  turns_within : (p : Place) (t e : Option Expr) (m : Step Flow) (s : Scope) (n : ℕ) → found_test typed t s ≡ None → found_value typed e s ≡ None → (found_test counted t s).most ≤ top → (found_value counted e s).most ≤ top → Within q n Flow m
+      → Within q ((cx.setting.turns + 1) * (found_test counted t s).creates + (cx.setting.turns * (found_value counted e s).creates + cx.setting.turns * n)) Flow (turns cx p t e m)
+  turns_within p t e m s n a b c d h =
+      loop_within q (spend cx.setting p) (spent_within p) (found_test counted t s).creates n (found_value counted e s).creates cx.setting.turns (eval_if cx 1 t) (scoped m) (eval_if cx 0 e >> nothing) (test_within t s a c) (scoped_within n m h)
+      (behind q (found_value counted e s).creates ℕ (Unit {0}) (eval_if cx 0 e) (λ _. nothing) (value_within e s b d) (λ _. within_pure q 0 (Unit {0}) tt))
 
   next_within : (n : ℕ) (f : Flow) (m : Step Flow) → Within q n Flow m → Within q n Flow (then_next f m)
   next_within n Next m h = h
@@ -247,15 +251,15 @@ module _ (q : ℕ → Type 0) (top : ℕ) (cx : Context) (body : Name → Counts
   form (Stmt-F.Declare d) s e h =
       behind q (declarators counted d.word d.declarators s).creates (Unit {0}) Flow (declare_all cx d.word d.declarators) (λ _. pure Next) (declares_within d.word d.declarators s e h) (λ _. within_pure q 0 Flow Next)
   form (Stmt-F.Block p ys) s e h = scoped_within (sum (stmts ys) (enter s)).creates (execute_all cx (stmts ys)) (sequence_within ys (enter s) e h)
-  form (Stmt-F.Label p n y) s e h = y.1 s e h
+  form (Stmt-F.Label p n y) s e h = scoped_within ((walk counted y.0).found s).creates (execute cx y.0) (y.1 s e h)
   form (Stmt-F.If p t y None) s e h =
       let test : Counts = weighed exact body s t in
       let yes : Counts = (walk counted y.0).found s in
       let parts = both_none (broken_in (means s) t role.Value) (or_else ((walk typed y.0).found s) None) e in
       let rest : max yes.most 0 ≤ top = right_of test.most (max yes.most 0) top h in
       test_first t s (yes.creates + 0) _ parts.0 (left_of test.most (max yes.most 0) top h) (λ v.
-      within_cond q (yes.creates + 0) Flow (is_true v) (execute cx y.0) (pure Next)
-      (within_more q yes.creates (yes.creates + 0) Flow (execute cx y.0) (omega arith) (y.1 s (both_none ((walk typed y.0).found s) None parts.1).0 (left_of yes.most 0 top rest)))
+      within_cond q (yes.creates + 0) Flow (is_true v) (scoped (execute cx y.0)) (pure Next)
+      (within_more q yes.creates (yes.creates + 0) Flow (scoped (execute cx y.0)) (omega arith) (scoped_within yes.creates (execute cx y.0) (y.1 s (both_none ((walk typed y.0).found s) None parts.1).0 (left_of yes.most 0 top rest))))
       (within_pure q (yes.creates + 0) Flow Next))
   form (Stmt-F.If p t y (Some z)) s e h =
       let test : Counts = weighed exact body s t in
@@ -265,21 +269,22 @@ module _ (q : ℕ → Type 0) (top : ℕ) (cx : Context) (body : Name → Counts
       let both = both_none ((walk typed y.0).found s) ((walk typed z.0).found s) parts.1 in
       let rest : max yes.most no.most ≤ top = right_of test.most (max yes.most no.most) top h in
       test_first t s (yes.creates + no.creates) _ parts.0 (left_of test.most (max yes.most no.most) top h) (λ v.
-      within_cond q (yes.creates + no.creates) Flow (is_true v) (execute cx y.0) (execute cx z.0)
-      (within_more q yes.creates (yes.creates + no.creates) Flow (execute cx y.0) (omega arith) (y.1 s both.0 (left_of yes.most no.most top rest)))
-      (within_more q no.creates (yes.creates + no.creates) Flow (execute cx z.0) (omega arith) (z.1 s both.1 (right_of yes.most no.most top rest))))
+      within_cond q (yes.creates + no.creates) Flow (is_true v) (scoped (execute cx y.0)) (scoped (execute cx z.0))
+      (within_more q yes.creates (yes.creates + no.creates) Flow (scoped (execute cx y.0)) (omega arith) (scoped_within yes.creates (execute cx y.0) (y.1 s both.0 (left_of yes.most no.most top rest))))
+      (within_more q no.creates (yes.creates + no.creates) Flow (scoped (execute cx z.0)) (omega arith) (scoped_within no.creates (execute cx z.0) (z.1 s both.1 (right_of yes.most no.most top rest)))))
   form (Stmt-F.While p t y) s e h =
       let k : ℕ = cx.setting.turns in
       let test : Counts = weighed exact body s t in
       let turn : Counts = (walk counted y.0).found (loop_in s) in
       let parts = both_none (broken_in (means s) t role.Value) ((walk typed y.0).found (loop_in s)) e in
-      within_more q ((k + 1) * test.creates + (k * 0 + k * turn.creates)) ((k + 1) * test.creates + k * turn.creates) Flow (turns cx (Some t) None (execute cx y.0)) (omega arith)
-      (turns_within (Some t) None (execute cx y.0) s turn.creates parts.0 refl (left_of test.most turn.most top h) (omega arith) (y.1 (loop_in s) parts.1 (right_of test.most turn.most top h)))
+      within_more q ((k + 1) * test.creates + (k * 0 + k * turn.creates)) ((k + 1) * test.creates + k * turn.creates) Flow (turns cx p (Some t) None (execute cx y.0)) (omega arith)
+      (turns_within p (Some t) None (execute cx y.0) s turn.creates parts.0 refl (left_of test.most turn.most top h) (omega arith) (y.1 (loop_in s) parts.1 (right_of test.most turn.most top h)))
   form (Stmt-F.DoWhile p y t) s e h =
       let test : Counts = weighed exact body s t in
       let turn : Counts = (walk counted y.0).found (loop_in s) in
       let parts = both_none ((walk typed y.0).found (loop_in s)) (broken_in (means s) t role.Value) e in
-      do_loop_within q test.creates turn.creates cx.setting.turns (eval cx t) (execute cx y.0) (weighs s t parts.1 (right_of turn.most test.most top h)) (y.1 (loop_in s) parts.0 (left_of turn.most test.most top h))
+      do_loop_within q (spend cx.setting p) (spent_within p) test.creates turn.creates cx.setting.turns (eval cx t) (scoped (execute cx y.0)) (weighs s t parts.1 (right_of turn.most test.most top h))
+      (scoped_within turn.creates (execute cx y.0) (y.1 (loop_in s) parts.0 (left_of turn.most test.most top h)))
   form (Stmt-F.For p first t x y) s e h =
       let k : ℕ = cx.setting.turns in
       let inside : Scope = behind_start first (enter s) in
@@ -293,10 +298,10 @@ module _ (q : ℕ → Type 0) (top : ℕ) (cx : Context) (body : Name → Counts
       let last = both_none (found_value typed x inside) ((walk typed y.0).found (loop_in inside)) rest.1 in
       let most : max test.most (max step.most turn.most) ≤ top = right_of begun.most (max test.most (max step.most turn.most)) top h in
       let least : max step.most turn.most ≤ top = right_of test.most (max step.most turn.most) top most in
-      scoped_within (begun.creates + all) (begin_for cx first >> turns cx t x (execute cx y.0))
-      (within_then q begun.creates all (begun.creates + all) (Unit {0}) Flow (begin_for cx first) (λ _. turns cx t x (execute cx y.0)) (omega arith)
+      scoped_within (begun.creates + all) (begin_for cx first >> turns cx p t x (execute cx y.0))
+      (within_then q begun.creates all (begun.creates + all) (Unit {0}) Flow (begin_for cx first) (λ _. turns cx p t x (execute cx y.0)) (omega arith)
       (start_within first (enter s) parts.0 (left_of begun.most (max test.most (max step.most turn.most)) top h))
-      (λ _. turns_within t x (execute cx y.0) inside turn.creates rest.0 last.0 (left_of test.most (max step.most turn.most) top most) (left_of step.most turn.most top least)
+      (λ _. turns_within p t x (execute cx y.0) inside turn.creates rest.0 last.0 (left_of test.most (max step.most turn.most) top most) (left_of step.most turn.most top least)
       (y.1 (loop_in inside) last.1 (right_of step.most turn.most top least))))
   form (Stmt-F.Return p x) s e h =
       behind q (found_returned counted p x s).creates ℕ Flow (eval_if cx 0 x) (λ v. pure (Returned v)) (returned_within p x s e h) (λ v. within_pure q 0 Flow (Returned v))

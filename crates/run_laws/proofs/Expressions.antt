@@ -21,9 +21,9 @@ use Rattle.c_check.specs.Counts.{exact, Cost, cost, cost_step, cost_namings, rea
 use Rattle.c_check.specs.Counts.{call as call_counts}
 use Rattle.c_check.proofs.Namings.{same_created}
 use Rattle.run_model.specs.declared.state.Slot.{Slot}
-use Rattle.run_model.specs.Steps.{◌>>=◌, pure, in_turn}
+use Rattle.run_model.specs.Steps.{Step, ◌>>=◌, pure, in_turn}
 use Rattle.run_model.specs.Cells.{slot}
-use Rattle.run_model.specs.Calls.{Meaning, Context, function_named, function_in, create, argument, builtin_call}
+use Rattle.run_model.specs.Calls.{Meaning, Context, no_other, function_named, function_in, create, argument, builtin_call}
 use Rattle.run_model.specs.Meaning.{count, call, call_builtin, runs_of, expr_step, meaning, eval}
 use Rattle.run_model.proofs.Kept.{kept_slot}
 use Rattle.run_model.proofs.Handles.{Numbers, numbers_keeps}
@@ -52,6 +52,7 @@ right_of a c t h = omega arith
 pub record Bounds (q : ℕ → Type 0) (top : ℕ) (cx : Context) (body : Name → Counts) : Type 0 where
   pub calls : (n : Name) (f : ℕ) → function_named cx.setting n ≡ Some f → (body n).most ≤ top → (args : List ℕ) → Within q (body n).creates ℕ (cx.call f args)
   pub creates : (n : Name) (f : ℕ) → function_named cx.setting n ≡ Some f → (body n).creates ≤ top → (body n).most ≤ top → q f
+  pub only : cx.setting.other ≡ no_other
 
 module _ (q : ℕ → Type 0) (top : ℕ) (cx : Context) (body : Name → Counts) (bounds : Bounds q top cx body) (s : Scope) where
   abbrev means : Name → Meant
@@ -182,8 +183,9 @@ module _ (q : ℕ → Type 0) (top : ℕ) (cx : Context) (body : Name → Counts
 
   builtin_limited : (p : Place) (n : Name) (r : Role) (roles : ℕ → Role) (ys : List Part) (d : Option Builtin) → builtin_named n ≡ d → function_named cx.setting n ≡ None
       → broken_arguments roles 0 (judges ys) ≡ None → call_fits means r (means n) (exprs ys) ≡ true → (call_sum n ys).most ≤ top
-      → Within q (call_sum n ys).creates ℕ (call_builtin cx.setting p d (metas ys))
-  builtin_limited p n r roles ys None built none e fits h = within_stop q (call_sum n ys).creates ℕ
+      → Within q (call_sum n ys).creates ℕ (call_builtin cx.setting p n d (metas ys))
+  builtin_limited p n r roles ys None built none e fits h =
+      subst (λ (o : Name → List Meaning → Step ℕ). Within q (call_sum n ys).creates ℕ (o n (metas ys))) (sym bounds.only) (within_stop q (call_sum n ys).creates ℕ)
   builtin_limited p n r roles ys (Some c) built none e fits h =
       limited_builtin q (call_sum n ys).creates cx p c (metas ys)
       (λ is. subst (λ (v : Builtin). Within q (call_sum n ys).creates ℕ (builtin_call cx.setting p v (metas ys))) (sym is)

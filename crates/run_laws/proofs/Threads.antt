@@ -74,6 +74,7 @@ module _ (p : Checked) (handle least : ℕ) (typed : IsTyped p.program) where
     creates = λ a f named few most.
         let same : bodies p m a ≡ counts_for p m f = named_counts p a m f named in
         record { fuel = m; enough = low; few = subst (λ (c : Counts). c.creates ≤ 63) same few; few_below = subst (λ (c : Counts). c.most ≤ 63) same most };
+    only = refl;
   }
 
   called_at : (n m f : ℕ) (args : List ℕ) (o : Option Function) → slice_get g.functions f ≡ o → least ≤ m → Counted n m → (counts_for p (suc m) f).most ≤ 63

@@ -119,6 +119,7 @@ module _ (g : Setting) (c d : ℕ → List ℕ → Step ℕ) where
   first_values_agree type.Void n None h = refl
   first_values_agree type.VoidPointer n None h = refl
   first_values_agree type.Mutex n None h = refl
+  first_values_agree type.Cond n None h = refl
   first_values_agree w n (Some (One e)) h = ap (λ m. m ∷ []) (eval_agrees e h)
   first_values_agree w n (Some (Braces es)) h = evals_agree es h
 

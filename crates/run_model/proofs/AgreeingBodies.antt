@@ -1,6 +1,7 @@
 -- Bodies of functions do the same where calls do the same, of the functions that they call.
 use Rattle.std.proofs.Common.{◌≡◌, ℕ, List, [], ◌∷◌, ◌++◌, Option, Some, None, map, refl, sym, ap, ◌∙◌, subst}
 use Rattle.std.specs.Prelude.{cond}
+use Rattle.dg_base.specs.declared.Place.{Place}
 use Rattle.dg_base.specs.Values.{is_true}
 use Rattle.c_tree.specs.declared.expr.TypeWord.{TypeWord}
 use Rattle.c_tree.specs.declared.expr.Expr.{Expr}
@@ -16,7 +17,7 @@ use Rattle.c_check.specs.Recursion.{called_in, called_in_option, called_in_start
 use Rattle.run_model.specs.declared.state.Flow.{Flow}
 use Rattle.run_model.specs.declared.state.Flow.TheVariants.{Next, Returned}
 use Rattle.run_model.specs.Steps.{Step, ◌>>=◌, ◌>>◌, pure, nothing, look, change}
-use Rattle.run_model.specs.Calls.{Setting, Context}
+use Rattle.run_model.specs.Calls.{Setting, Context, spend}
 use Rattle.run_model.specs.Meaning.{eval}
 use Rattle.run_model.specs.Statements.{then_next, scoped, loop, do_loop, declare_one, declare_all, eval_if, begin_for, turns, stmt_step, execute, execute_all}
 use Rattle.run_model.specs.Threads.{run_body, is_atomic, in_section, call_body, parameters, result_of}
@@ -73,11 +74,11 @@ module _ (g : Setting) (c d : ℕ → List ℕ → Step ℕ) where
       ap (λ (m : Step Flow). m >>= (λ f. then_next f (execute_all cx (stmts ys)))) (y.1 (left g c d first rest h))
       ∙ ap (λ (m : Step Flow). execute cy y.0 >>= (λ f. then_next f m)) (sequence_agrees ys (right g c d first rest h))
 
-  turns_agree : (t e : Option Expr) (m n : Step Flow) → eval_if cx 1 t ≡ eval_if cy 1 t → eval_if cx 0 e ≡ eval_if cy 0 e → m ≡ n → turns cx t e m ≡ turns cy t e n
-  turns_agree t e m n p q r =
-      ap (λ (z : Step ℕ). loop g.turns z m (eval_if cx 0 e >> nothing)) p
-      ∙ ap (λ (z : Step ℕ). loop g.turns (eval_if cy 1 t) m (z >> nothing)) q
-      ∙ ap (λ (z : Step Flow). loop g.turns (eval_if cy 1 t) z (eval_if cy 0 e >> nothing)) r
+  turns_agree : (w : Place) (t e : Option Expr) (m n : Step Flow) → eval_if cx 1 t ≡ eval_if cy 1 t → eval_if cx 0 e ≡ eval_if cy 0 e → m ≡ n → turns cx w t e m ≡ turns cy w t e n
+  turns_agree w t e m n p q r =
+      ap (λ (z : Step ℕ). loop (spend g w) g.turns z (scoped m) (eval_if cx 0 e >> nothing)) p
+      ∙ ap (λ (z : Step ℕ). loop (spend g w) g.turns (eval_if cy 1 t) (scoped m) (z >> nothing)) q
+      ∙ ap (λ (z : Step Flow). loop (spend g w) g.turns (eval_if cy 1 t) (scoped z) (eval_if cy 0 e >> nothing)) r
 
   form : (y : Stmt-F Piece) → Same (calls_step (map-Stmt Stmt (List Name) called_in_stmt (map-Stmt Piece Stmt (λ e. e.0) y)))
       → stmt_step cx (map-Stmt Stmt (Step Flow) (execute cx) (map-Stmt Piece Stmt (λ e. e.0) y)) ≡ stmt_step cy (map-Stmt Stmt (Step Flow) (execute cy) (map-Stmt Piece Stmt (λ e. e.0) y))
@@ -85,29 +86,29 @@ module _ (g : Setting) (c d : ℕ → List ℕ → Step ℕ) where
   form (Stmt-F.Expr p e) h = ap (λ (m : Step ℕ). m >> pure Next) (eval_same e h)
   form (Stmt-F.Declare r) h = ap (λ (m : Step (Unit {0})). m >> pure Next) (declares_agree r.word r.declarators h)
   form (Stmt-F.Block p ys) h = ap scoped (sequence_agrees ys h)
-  form (Stmt-F.Label p n y) h = y.1 h
+  form (Stmt-F.Label p n y) h = ap scoped (y.1 h)
   form (Stmt-F.If p t y None) h =
       let test : List Name = called_in t in
       let yes : List Name = called_in_stmt y.0 in
-      ap (λ (m : Step ℕ). m >>= (λ v. cond (is_true v) (execute cx y.0) (pure Next))) (eval_same t (left g c d test (yes ++ []) h))
-      ∙ ap (λ (m : Step Flow). eval cy t >>= (λ v. cond (is_true v) m (pure Next))) (y.1 (left g c d yes [] (right g c d test (yes ++ []) h)))
+      ap (λ (m : Step ℕ). m >>= (λ v. cond (is_true v) (scoped (execute cx y.0)) (pure Next))) (eval_same t (left g c d test (yes ++ []) h))
+      ∙ ap (λ (m : Step Flow). eval cy t >>= (λ v. cond (is_true v) (scoped m) (pure Next))) (y.1 (left g c d yes [] (right g c d test (yes ++ []) h)))
   form (Stmt-F.If p t y (Some z)) h =
       let test : List Name = called_in t in
       let yes : List Name = called_in_stmt y.0 in
       let no : List Name = called_in_stmt z.0 in
       let both : Same (yes ++ no) = right g c d test (yes ++ no) h in
-      ap (λ (m : Step ℕ). m >>= (λ v. cond (is_true v) (execute cx y.0) (execute cx z.0))) (eval_same t (left g c d test (yes ++ no) h))
-      ∙ ap (λ (m : Step Flow). eval cy t >>= (λ v. cond (is_true v) m (execute cx z.0))) (y.1 (left g c d yes no both))
-      ∙ ap (λ (m : Step Flow). eval cy t >>= (λ v. cond (is_true v) (execute cy y.0) m)) (z.1 (right g c d yes no both))
+      ap (λ (m : Step ℕ). m >>= (λ v. cond (is_true v) (scoped (execute cx y.0)) (scoped (execute cx z.0)))) (eval_same t (left g c d test (yes ++ no) h))
+      ∙ ap (λ (m : Step Flow). eval cy t >>= (λ v. cond (is_true v) (scoped m) (scoped (execute cx z.0)))) (y.1 (left g c d yes no both))
+      ∙ ap (λ (m : Step Flow). eval cy t >>= (λ v. cond (is_true v) (scoped (execute cy y.0)) (scoped m))) (z.1 (right g c d yes no both))
   form (Stmt-F.While p t y) h =
       let test : List Name = called_in t in
       let body : List Name = called_in_stmt y.0 in
-      turns_agree (Some t) None (execute cx y.0) (execute cy y.0) (eval_same t (left g c d test body h)) refl (y.1 (right g c d test body h))
+      turns_agree p (Some t) None (execute cx y.0) (execute cy y.0) (eval_same t (left g c d test body h)) refl (y.1 (right g c d test body h))
   form (Stmt-F.DoWhile p y t) h =
       let body : List Name = called_in_stmt y.0 in
       let test : List Name = called_in t in
-      ap (λ (m : Step ℕ). do_loop g.turns m (execute cx y.0)) (eval_same t (right g c d body test h))
-      ∙ ap (λ (m : Step Flow). do_loop g.turns (eval cy t) m) (y.1 (left g c d body test h))
+      ap (λ (m : Step ℕ). do_loop (spend g p) g.turns m (scoped (execute cx y.0))) (eval_same t (right g c d body test h))
+      ∙ ap (λ (m : Step Flow). do_loop (spend g p) g.turns (eval cy t) (scoped m)) (y.1 (left g c d body test h))
   form (Stmt-F.For p first t e y) h =
       let begun : List Name = called_in_for first in
       let test : List Name = called_in_option t in
@@ -115,9 +116,9 @@ module _ (g : Setting) (c d : ℕ → List ℕ → Step ℕ) where
       let body : List Name = called_in_stmt y.0 in
       let rest : Same (test ++ (step ++ body)) = right g c d begun (test ++ (step ++ body)) h in
       let last : Same (step ++ body) = right g c d test (step ++ body) rest in
-      ap (λ (m : Step (Unit {0})). scoped (m >> turns cx t e (execute cx y.0))) (start_agrees first (left g c d begun (test ++ (step ++ body)) h))
+      ap (λ (m : Step (Unit {0})). scoped (m >> turns cx p t e (execute cx y.0))) (start_agrees first (left g c d begun (test ++ (step ++ body)) h))
       ∙ ap (λ (m : Step Flow). scoped (begin_for cy first >> m))
-      (turns_agree t e (execute cx y.0) (execute cy y.0) (option_agrees 1 t (left g c d test (step ++ body) rest))
+      (turns_agree p t e (execute cx y.0) (execute cy y.0) (option_agrees 1 t (left g c d test (step ++ body) rest))
       (option_agrees 0 e (left g c d step body last)) (y.1 (right g c d step body last)))
   form (Stmt-F.Return p e) h = ap (λ (m : Step ℕ). m >>= (λ v. pure (Returned v))) (option_agrees 0 e h)
   form (Stmt-F.Break p) h = refl

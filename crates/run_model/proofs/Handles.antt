@@ -11,11 +11,12 @@ use Rattle.run_model.specs.declared.state.Need.{Need}
 use Rattle.run_model.specs.declared.state.Slot.{Slot}
 use Rattle.run_model.specs.declared.state.Slot.TheVariants.{Own, Common}
 use Rattle.run_model.specs.Steps.{State, Outcome, Goes, Halts, Step, go_on, take_from}
-use Rattle.run_model.specs.Calls.{Setting, create}
+use Rattle.run_model.specs.Calls.{Setting, no_other, create}
 use Rattle.run_model.specs.Programs.{setting_of}
 use Rattle.run_model.specs.Threads.{ShortRun, thread_steps, thread_run, short_run, outcome_of, run_in, short_in, begins}
 use Rattle.run_model.specs.Laws.{IsNumbered, creates_in}
 use Rattle.run_model.proofs.Kept.{Keeps, IsPlain}
+use Rattle.run_model.proofs.KeptMeaning.{kept_no_other}
 use Rattle.run_model.proofs.KeptThread.{kept_thread}
 
 pub creates_in-append : (xs ys : List Action) → creates_in (xs ++ ys) ≡ creates_in xs + creates_in ys
@@ -111,7 +112,7 @@ abbrev short_acts_of : Option ShortRun → List Action
 short_acts_of None = []
 short_acts_of (Some r) = r.actions
 
-module _ (g : Setting) (arg : ℕ) (script : List ℕ) where
+module _ (g : Setting) (only : g.other ≡ no_other) (arg : ℕ) (script : List ℕ) where
   adds_from_none : (t : State) → Adds g.handle (begins script) t → IsNumbered g.handle 0 t.actions
   adds_from_none t h = subst (IsNumbered g.handle 0) (sym h.actions) h.numbered
 
@@ -122,13 +123,13 @@ module _ (g : Setting) (arg : ℕ) (script : List ℕ) where
 
   all_numbered : (o : Option Function) → IsNumbered g.handle 0 (acts_of (run_in (outcome_of g o arg script))) × IsNumbered g.handle 0 (short_acts_of (short_in (outcome_of g o arg script)))
   all_numbered None = (tt, tt)
-  all_numbered (Some f) = outcome_numbered (thread_steps g f arg (begins script)) (kept_thread g.handle (Numbers g.handle) (numbers_keeps g.handle) g refl (length g.functions) f arg (begins script))
+  all_numbered (Some f) = outcome_numbered (thread_steps g f arg (begins script)) (kept_thread g.handle (Numbers g.handle) (numbers_keeps g.handle) g refl (kept_no_other g.handle (Numbers g.handle) (numbers_keeps g.handle) g only) (length g.functions) f arg (begins script))
 
 -- the creates of a thread are numbered in their order, also in a run for which the script is too short
 pub run_is_numbered : (p : Checked) (f handle arg : ℕ) (script : List ℕ) (r : Run) → thread_run p f handle arg script ≡ Some r → IsNumbered handle 0 r.actions
 run_is_numbered p f handle arg script r e =
-    subst (λ o. IsNumbered handle 0 (acts_of o)) e (all_numbered (setting_of p handle) arg script (slice_get (setting_of p handle).functions f)).0
+    subst (λ o. IsNumbered handle 0 (acts_of o)) e (all_numbered (setting_of p handle) refl arg script (slice_get (setting_of p handle).functions f)).0
 
 pub short_run_is_numbered : (p : Checked) (f handle arg : ℕ) (script : List ℕ) (r : ShortRun) → short_run p f handle arg script ≡ Some r → IsNumbered handle 0 r.actions
 short_run_is_numbered p f handle arg script r e =
-    subst (λ o. IsNumbered handle 0 (short_acts_of o)) e (all_numbered (setting_of p handle) arg script (slice_get (setting_of p handle).functions f)).1
+    subst (λ o. IsNumbered handle 0 (short_acts_of o)) e (all_numbered (setting_of p handle) refl arg script (slice_get (setting_of p handle).functions f)).1

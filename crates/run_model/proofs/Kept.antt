@@ -9,7 +9,7 @@ use Rattle.c_tree.specs.declared.expr.BinaryOp.{BinaryOp}
 use Rattle.c_tree.specs.Operators.{binary_op}
 use Rattle.c_rules.specs.Names.{Name}
 use Rattle.run_model.specs.declared.state.Ending.{Ending}
-use Rattle.run_model.specs.declared.state.Ending.TheVariants.{Ended, Stopped, Failed, Bad}
+use Rattle.run_model.specs.declared.state.Ending.TheVariants.{Ended, Stopped, Failed, Bound, Bad}
 use Rattle.run_model.specs.declared.state.Local.{Local}
 use Rattle.run_model.specs.declared.state.Shared.{Shared}
 use Rattle.run_model.specs.declared.state.Need.{Need}
@@ -18,7 +18,7 @@ use Rattle.run_model.specs.declared.state.Slot.{Slot}
 use Rattle.run_model.specs.declared.state.Slot.TheVariants.{Own, Common}
 use Rattle.run_model.specs.Steps.{Step, ◌>>=◌, ◌>>◌, pure, nothing, look, change, ends, make, take_number, obey, ask, outside, open_section, begin_section, end_section, stop, fail}
 use Rattle.run_model.specs.Cells.{cells_at, with_cell, local_named, shared_named, read, write, slot, slot_in, slot_in_shared}
-use Rattle.run_model.specs.Calls.{Setting, hold, lock_cell, unlock_cell, finish, exit_thread, any_bool, create, join}
+use Rattle.run_model.specs.Calls.{Setting, spend, hold, lock_cell, unlock_cell, finish, exit_thread, any_bool, create, join}
 use Rattle.run_model.specs.Meaning.{operate}
 
 -- the action creates no thread
@@ -58,6 +58,9 @@ module _ (handle : ℕ) (P : (A : Type 0) → Step A → Type 0) (k : Keeps hand
 
   pub kept_fail : (A : Type 0) (p : Place) → P A (fail p)
   kept_fail A p = k.of_end A (Failed p)
+
+  pub kept_spend : (A : Type 0) (g : Setting) (p : Place) → P A (spend g p)
+  kept_spend A g p = k.of_choice A Ending (λ ls c d. cond g.full (Bound p) (cond (nat_eq d 0) Stopped Bad)) (λ e. ends e) (λ e. k.of_end A e)
 
   pub kept_outside : (m : Step (Unit {0})) → P (Unit {0}) m → P (Unit {0}) (outside m)
   kept_outside m p =

@@ -20,7 +20,7 @@ use Rattle.run_model.specs.declared.state.Need.TheVariants.{Any}
 use Rattle.run_model.specs.declared.state.Slot.{Slot}
 use Rattle.run_model.specs.Steps.{State, Step, ◌>>◌, pure, look, make, begin_section, end_section, stop, fail, in_turn}
 use Rattle.run_model.specs.Cells.{read, write, slot, unsigned_in, local_named}
-use Rattle.run_model.specs.Calls.{Meaning, Context, function_named, function_in, lock_cell, unlock_cell, exit_thread, join, no_argument, argument, builtin_call}
+use Rattle.run_model.specs.Calls.{Meaning, Setting, Context, no_other, function_named, function_in, lock_cell, unlock_cell, exit_thread, join, no_argument, argument, builtin_call}
 use Rattle.run_model.specs.Meaning.{value, lvalue, operate, binary, assign, count, call, call_builtin, runs_of, result_unsigned, expr_step, meaning}
 use Rattle.run_model.proofs.Kept.{Keeps, kept_then, kept_look, kept_cond, kept_stop, kept_fail, kept_begin, kept_finish_section, kept_read, kept_write, kept_slot, kept_lock, kept_unlock, kept_exit, kept_bool, kept_join, kept_operate}
 
@@ -43,9 +43,18 @@ module _ (handle : ℕ) (P : (A : Type 0) → Step A → Type 0) (k : Keeps hand
   abbrev pub Part : Context → Type 0
   Part cx = (e : Expr) × KeptMeaning (meaning cx e)
 
+  -- each argument keeps the property
+  abbrev pub KeptArguments : List Meaning → Type 0
+  KeptArguments ms = (i : ℕ) → KeptMeaning (argument ms i)
+
   pub record KeptContext (cx : Context) : Type 0 where
     pub own : cx.setting.handle ≡ handle
     pub calls : (f : ℕ) (args : List ℕ) → P ℕ (cx.call f args)
+    pub others : (n : Name) (ms : List Meaning) → KeptArguments ms → P ℕ (cx.setting.other n ms)
+
+  -- where there is no other call
+  pub kept_no_other : (g : Setting) → g.other ≡ no_other → (n : Name) (ms : List Meaning) → KeptArguments ms → P ℕ (g.other n ms)
+  kept_no_other g only n ms h = subst (λ (o : Name → List Meaning → Step ℕ). P ℕ (o n ms)) (sym only) (kept_stop handle P k ℕ)
 
   kept_unsigned : (m : Meaning) → KeptMeaning m → P Bool (look m.unsigned)
   kept_unsigned m h = subst (λ (f : State → Bool). P Bool (look f)) (sym h.unsigned.1) (kept_look handle P k Bool (λ ls c d. h.unsigned.0 ls))
@@ -139,13 +148,13 @@ module _ (handle : ℕ) (P : (A : Type 0) → Step A → Type 0) (k : Keeps hand
     kept_builtin p b.Finish ys = kept_then handle P k end_section (pure 0) (kept_finish_section handle P k) (kept_pure 0)
     kept_builtin p b.Synchronize ys = kept_then handle P k (make Fence) (pure 0) (k.of_action Fence tt) (kept_pure 0)
 
-    kept_call_builtin : (p : Place) (o : Option Builtin) (ys : List (Part cx)) → P ℕ (call_builtin cx.setting p o (parts ys))
-    kept_call_builtin p None ys = kept_stop handle P k ℕ
-    kept_call_builtin p (Some c) ys = kept_builtin p c ys
+    kept_call_builtin : (p : Place) (n : Name) (o : Option Builtin) (ys : List (Part cx)) → P ℕ (call_builtin cx.setting p n o (parts ys))
+    kept_call_builtin p n None ys = keeps.others n (parts ys) (kept_argument ys)
+    kept_call_builtin p n (Some c) ys = kept_builtin p c ys
 
     kept_call : (p : Place) (n : Name) (ys : List (Part cx)) (o : Option ℕ) → P ℕ (call cx p n (parts ys) o)
     kept_call p n ys (Some f) = k.of_then (List ℕ) ℕ (in_turn [] (runs_of (parts ys))) (cx.call f) (kept_in_turn [] ys) (keeps.calls f)
-    kept_call p n ys None = kept_call_builtin p (builtin_named n) ys
+    kept_call p n ys None = kept_call_builtin p n (builtin_named n) ys
 
     -- ---- expressions
 

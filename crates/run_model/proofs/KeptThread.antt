@@ -1,6 +1,7 @@
 -- What the parts of every run keep, statements, calls of functions and threads keep.
 use Rattle.std.proofs.Common.{◌≡◌, ℕ, zero, suc, ◌+◌, List, [], ◌∷◌, ◌++◌, Option, Some, None, map, length, take, sym, subst}
 use Rattle.std.specs.Prelude.{slice_get, replicate}
+use Rattle.dg_base.specs.declared.Place.{Place}
 use Rattle.dg_base.specs.Values.{is_true}
 use Rattle.axiom_model.specs.declared.Action.TheVariants as action
 use Rattle.c_tree.specs.declared.expr.TypeWord.{TypeWord}
@@ -16,6 +17,7 @@ use Rattle.c_tree.specs.declared.stmt.Stmt.TheOpen.{Stmt-F}
 use Rattle.c_tree.specs.declared.stmt.Stmt.TheViews.{roll-Stmt}
 use Rattle.c_tree.specs.declared.program.Function.{Function}
 use Rattle.c_tree.specs.Operators.{word_unsigned}
+use Rattle.c_rules.specs.Names.{Name}
 use Rattle.c_check.specs.Limits.{cell_count}
 use Rattle.run_model.specs.declared.state.Local.{Local}
 use Rattle.run_model.specs.declared.state.Flow.{Flow}
@@ -24,12 +26,12 @@ use Rattle.run_model.specs.declared.state.Need.TheVariants.{Any}
 use Rattle.run_model.specs.declared.state.Slot.TheVariants.{Own}
 use Rattle.run_model.specs.Steps.{Step, ◌>>=◌, ◌>>◌, pure, nothing, look, change, make, take_number, begin_section, end_section, stop}
 use Rattle.run_model.specs.Cells.{write}
-use Rattle.run_model.specs.Calls.{Setting, Context, finish}
+use Rattle.run_model.specs.Calls.{Meaning, Setting, Context, spend, finish}
 use Rattle.run_model.specs.Meaning.{eval}
 use Rattle.run_model.specs.Statements.{then_next, scoped, leaves, unless_left, loop, do_loop, first_values, store_from, enter, declare_one, declare_all, eval_if, begin_for, turns, stmt_step, execute, execute_all}
 use Rattle.run_model.specs.Threads.{parameters, result_of, run_body, is_atomic, in_section, call_body, with_function, call_within, context_within, thread_within}
-use Rattle.run_model.proofs.Kept.{Keeps, kept_then, kept_nothing, kept_look, kept_cond, kept_stop, kept_begin, kept_finish_section, kept_write, kept_finish}
-use Rattle.run_model.proofs.KeptMeaning.{KeptContext, kept_meaning}
+use Rattle.run_model.proofs.Kept.{Keeps, kept_then, kept_nothing, kept_look, kept_cond, kept_stop, kept_spend, kept_begin, kept_finish_section, kept_write, kept_finish}
+use Rattle.run_model.proofs.KeptMeaning.{KeptArguments, KeptContext, kept_meaning}
 
 module _ (handle : ℕ) (P : (A : Type 0) → Step A → Type 0) (k : Keeps handle P) where
   module _ (cx : Context) (keeps : KeptContext handle P k cx) where
@@ -60,6 +62,7 @@ module _ (handle : ℕ) (P : (A : Type 0) → Step A → Type 0) (k : Keeps hand
     kept_first_values l type.Void n None = kept_store_taken l 0 n
     kept_first_values l type.VoidPointer n None = kept_store_taken l 0 n
     kept_first_values l type.Mutex n None = kept_store_taken l 0 n
+    kept_first_values l type.Cond n None = kept_store_taken l 0 n
     kept_first_values l w n (Some (One e)) = kept_store_all l 0 (e ∷ [])
     kept_first_values l w n (Some (Braces es)) = kept_store_all l 0 es
 
@@ -79,39 +82,39 @@ module _ (handle : ℕ) (P : (A : Type 0) → Step A → Type 0) (k : Keeps hand
     kept_begin_for (start.Expr e) = kept_then handle P k (eval cx e) nothing (kept_eval e) (kept_nothing handle P k)
     kept_begin_for (start.Declare d) = kept_declare d.word d.declarators
 
+    kept_scoped : (m : Step Flow) → P Flow m → P Flow (scoped m)
+    kept_scoped m p =
+        k.of_then ℕ Flow (look (λ s. length s.locals)) _ (kept_look handle P k ℕ (λ ls c n. length ls)) (λ n.
+        k.of_then Flow Flow m _ p (λ f.
+        kept_then handle P k (change (λ s. record s { locals = take n s.locals })) (pure f) (k.of_locals (λ ls. take n ls)) (k.of_pure Flow f)))
+
     -- ---- loops
 
     kept_unless_left : (o : Option Flow) (m : Step Flow) → P Flow m → P Flow (unless_left o m)
     kept_unless_left None m p = p
     kept_unless_left (Some f) m p = k.of_pure Flow f
 
-    kept_loop : (n : ℕ) (t : Step ℕ) (b : Step Flow) (e : Step (Unit {0})) → P ℕ t → P Flow b → P (Unit {0}) e → P Flow (loop n t b e)
-    kept_loop zero t b e p q r = k.of_then ℕ Flow t _ p (λ v. kept_cond handle P k Flow (is_true v) stop (pure Next) (kept_stop handle P k Flow) (k.of_pure Flow Next))
-    kept_loop (suc n) t b e p q r =
+    kept_loop : (z : Step Flow) (n : ℕ) (t : Step ℕ) (b : Step Flow) (e : Step (Unit {0})) → P Flow z → P ℕ t → P Flow b → P (Unit {0}) e → P Flow (loop z n t b e)
+    kept_loop z zero t b e o p q r = k.of_then ℕ Flow t _ p (λ v. kept_cond handle P k Flow (is_true v) z (pure Next) o (k.of_pure Flow Next))
+    kept_loop z (suc n) t b e o p q r =
         k.of_then ℕ Flow t _ p (λ v.
         kept_cond handle P k Flow (is_true v) _ (pure Next)
-        (k.of_then Flow Flow b _ q (λ f. kept_unless_left (leaves f) (e >> loop n t b e) (kept_then handle P k e (loop n t b e) r (kept_loop n t b e p q r))))
+        (k.of_then Flow Flow b _ q (λ f. kept_unless_left (leaves f) (e >> loop z n t b e) (kept_then handle P k e (loop z n t b e) r (kept_loop z n t b e o p q r))))
         (k.of_pure Flow Next))
 
-    kept_do_loop : (n : ℕ) (t : Step ℕ) (b : Step Flow) → P ℕ t → P Flow b → P Flow (do_loop n t b)
-    kept_do_loop zero t b p q = kept_stop handle P k Flow
-    kept_do_loop (suc n) t b p q =
+    kept_do_loop : (z : Step Flow) (n : ℕ) (t : Step ℕ) (b : Step Flow) → P Flow z → P ℕ t → P Flow b → P Flow (do_loop z n t b)
+    kept_do_loop z zero t b o p q = o
+    kept_do_loop z (suc n) t b o p q =
         k.of_then Flow Flow b _ q (λ f.
         kept_unless_left (leaves f) _
-        (k.of_then ℕ Flow t _ p (λ v. kept_cond handle P k Flow (is_true v) (do_loop n t b) (pure Next) (kept_do_loop n t b p q) (k.of_pure Flow Next))))
+        (k.of_then ℕ Flow t _ p (λ v. kept_cond handle P k Flow (is_true v) (do_loop z n t b) (pure Next) (kept_do_loop z n t b o p q) (k.of_pure Flow Next))))
 
-    kept_turns : (t e : Option Expr) (b : Step Flow) → P Flow b → P Flow (turns cx t e b)
-    kept_turns t e b q =
-        kept_loop cx.setting.turns (eval_if cx 1 t) b (eval_if cx 0 e >> nothing) (kept_eval_if 1 t) q
+    kept_turns : (p : Place) (t e : Option Expr) (b : Step Flow) → P Flow b → P Flow (turns cx p t e b)
+    kept_turns p t e b q =
+        kept_loop (spend cx.setting p) cx.setting.turns (eval_if cx 1 t) (scoped b) (eval_if cx 0 e >> nothing) (kept_spend handle P k Flow cx.setting p) (kept_eval_if 1 t) (kept_scoped b q)
         (kept_then handle P k (eval_if cx 0 e) nothing (kept_eval_if 0 e) (kept_nothing handle P k))
 
     -- ---- statements
-
-    kept_scoped : (m : Step Flow) → P Flow m → P Flow (scoped m)
-    kept_scoped m p =
-        k.of_then ℕ Flow (look (λ s. length s.locals)) _ (kept_look handle P k ℕ (λ ls c n. length ls)) (λ n.
-        k.of_then Flow Flow m _ p (λ f.
-        kept_then handle P k (change (λ s. record s { locals = take n s.locals })) (pure f) (k.of_locals (λ ls. take n ls)) (k.of_pure Flow f)))
 
     kept_next : (f : Flow) (m : Step Flow) → P Flow m → P Flow (then_next f m)
     kept_next Next m p = p
@@ -133,14 +136,14 @@ module _ (handle : ℕ) (P : (A : Type 0) → Step A → Type 0) (k : Keeps hand
     kept_form (Stmt-F.Expr p e) = kept_then handle P k (eval cx e) (pure Next) (kept_eval e) (k.of_pure Flow Next)
     kept_form (Stmt-F.Declare d) = kept_then handle P k (declare_all cx d.word d.declarators) (pure Next) (kept_declare d.word d.declarators) (k.of_pure Flow Next)
     kept_form (Stmt-F.Block p ys) = kept_scoped (execute_all cx (map (λ e. e.0) ys)) (kept_sequence ys)
-    kept_form (Stmt-F.Label p n y) = y.1
-    kept_form (Stmt-F.If p t y None) = k.of_then ℕ Flow (eval cx t) _ (kept_eval t) (λ v. kept_cond handle P k Flow (is_true v) (execute cx y.0) (pure Next) y.1 (k.of_pure Flow Next))
-    kept_form (Stmt-F.If p t y (Some z)) = k.of_then ℕ Flow (eval cx t) _ (kept_eval t) (λ v. kept_cond handle P k Flow (is_true v) (execute cx y.0) (execute cx z.0) y.1 z.1)
-    kept_form (Stmt-F.While p t y) = kept_turns (Some t) None (execute cx y.0) y.1
-    kept_form (Stmt-F.DoWhile p y t) = kept_do_loop cx.setting.turns (eval cx t) (execute cx y.0) (kept_eval t) y.1
+    kept_form (Stmt-F.Label p n y) = kept_scoped (execute cx y.0) y.1
+    kept_form (Stmt-F.If p t y None) = k.of_then ℕ Flow (eval cx t) _ (kept_eval t) (λ v. kept_cond handle P k Flow (is_true v) (scoped (execute cx y.0)) (pure Next) (kept_scoped (execute cx y.0) y.1) (k.of_pure Flow Next))
+    kept_form (Stmt-F.If p t y (Some z)) = k.of_then ℕ Flow (eval cx t) _ (kept_eval t) (λ v. kept_cond handle P k Flow (is_true v) (scoped (execute cx y.0)) (scoped (execute cx z.0)) (kept_scoped (execute cx y.0) y.1) (kept_scoped (execute cx z.0) z.1))
+    kept_form (Stmt-F.While p t y) = kept_turns p (Some t) None (execute cx y.0) y.1
+    kept_form (Stmt-F.DoWhile p y t) = kept_do_loop (spend cx.setting p) cx.setting.turns (eval cx t) (scoped (execute cx y.0)) (kept_spend handle P k Flow cx.setting p) (kept_eval t) (kept_scoped (execute cx y.0) y.1)
     kept_form (Stmt-F.For p first t e y) =
-        kept_scoped (begin_for cx first >> turns cx t e (execute cx y.0))
-        (k.of_then (Unit {0}) Flow (begin_for cx first) (λ _. turns cx t e (execute cx y.0)) (kept_begin_for first) (λ _. kept_turns t e (execute cx y.0) y.1))
+        kept_scoped (begin_for cx first >> turns cx p t e (execute cx y.0))
+        (k.of_then (Unit {0}) Flow (begin_for cx first) (λ _. turns cx p t e (execute cx y.0)) (kept_begin_for first) (λ _. kept_turns p t e (execute cx y.0) y.1))
     kept_form (Stmt-F.Return p e) = k.of_then ℕ Flow (eval_if cx 0 e) (λ v. pure (Returned v)) (kept_eval_if 0 e) (λ v. k.of_pure Flow (Returned v))
     kept_form (Stmt-F.Break p) = k.of_pure Flow Broke
     kept_form (Stmt-F.Continue p) = k.of_pure Flow Continued
@@ -176,13 +179,13 @@ module _ (handle : ℕ) (P : (A : Type 0) → Step A → Type 0) (k : Keeps hand
 
   -- ---- threads
 
-  module _ (g : Setting) (own : g.handle ≡ handle) where
+  module _ (g : Setting) (own : g.handle ≡ handle) (others : (n : Name) (ms : List Meaning) → KeptArguments handle P k ms → P ℕ (g.other n ms)) where
     kept_calls : (n f : ℕ) (args : List ℕ) → P ℕ (call_within n g f args)
     kept_calls zero f args = kept_stop handle P k ℕ
-    kept_calls (suc n) f args = kept_with (context_within n g) (record { own = own; calls = kept_calls n }) (slice_get g.functions f) args
+    kept_calls (suc n) f args = kept_with (context_within n g) (record { own = own; calls = kept_calls n; others = others }) (slice_get g.functions f) args
 
     -- every thread keeps the property
     pub kept_thread : (n : ℕ) (f : Function) (arg : ℕ) → P ⊥ (thread_within n g f arg)
     kept_thread n f arg =
         kept_then handle P k (make action.Start) _ (k.of_action action.Start tt)
-        (k.of_then ℕ ⊥ (run_body (context_within n g) f (arg ∷ [])) (λ _. finish) (kept_run_body (context_within n g) (record { own = own; calls = kept_calls n }) f (arg ∷ [])) (λ _. kept_finish handle P k ⊥))
+        (k.of_then ℕ ⊥ (run_body (context_within n g) f (arg ∷ [])) (λ _. finish) (kept_run_body (context_within n g) (record { own = own; calls = kept_calls n; others = others }) f (arg ∷ [])) (λ _. kept_finish handle P k ⊥))

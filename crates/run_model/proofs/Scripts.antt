@@ -10,12 +10,13 @@ use Rattle.run_model.specs.declared.state.Need.{Need}
 use Rattle.run_model.specs.declared.state.Slot.{Slot}
 use Rattle.run_model.specs.declared.state.Slot.TheVariants.{Own, Common}
 use Rattle.run_model.specs.Steps.{State, Outcome, Goes, Halts, Step, go_on, ◌>>=◌, take_from, take_number}
-use Rattle.run_model.specs.Calls.{Setting, create}
+use Rattle.run_model.specs.Calls.{Setting, no_other, create}
 use Rattle.run_model.specs.Programs.{setting_of}
 use Rattle.run_model.specs.Threads.{ShortRun, thread_steps, thread_run, short_run, outcome_of, run_in, short_in, begins}
 use Rattle.run_model.specs.Laws.{UsesOnly}
 use Rattle.run_model.specs.Running.{short_used}
 use Rattle.run_model.proofs.Kept.{Keeps}
+use Rattle.run_model.proofs.KeptMeaning.{kept_no_other}
 use Rattle.run_model.proofs.KeptThread.{kept_thread}
 
 abbrev pub with_script : State → List ℕ → State
@@ -105,7 +106,7 @@ abbrev used_by : Option Run → ℕ
 used_by None = 0
 used_by (Some r) = r.used
 
-module _ (g : Setting) (arg : ℕ) (script : List ℕ) where
+module _ (g : Setting) (only : g.other ≡ no_other) (arg : ℕ) (script : List ℕ) where
   over_uses : (f : Function) (r : Run) (o : Outcome ⊥) → Reads ⊥ (thread_steps g f arg) (begins script) o → run_in (Some o) ≡ Some r → UsesFirst (λ xs. run_in (outcome_of g (Some f) arg xs)) script r
   over_uses f r (Goes v t) h e = absurd v
   over_uses f r (Halts (Over ending) t) h e = record {
@@ -119,7 +120,7 @@ module _ (g : Setting) (arg : ℕ) (script : List ℕ) where
 
   outcome_uses : (o : Option Function) (r : Run) → run_in (outcome_of g o arg script) ≡ Some r → UsesFirst (λ xs. run_in (outcome_of g o arg xs)) script r
   outcome_uses None r e = absurd (let no : ◌≡◌ {A = Option Run} None (Some r) = e in cc)
-  outcome_uses (Some f) r e = over_uses f r (thread_steps g f arg (begins script)) (kept_thread g.handle IsReader (reader_keeps g.handle) g refl (length g.functions) f arg (begins script)) e
+  outcome_uses (Some f) r e = over_uses f r (thread_steps g f arg (begins script)) (kept_thread g.handle IsReader (reader_keeps g.handle) g refl (kept_no_other g.handle IsReader (reader_keeps g.handle) g only) (length g.functions) f arg (begins script)) e
 
 -- where each run uses its first numbers only, it needs them all
 module _ (runs : List ℕ → Option Run) (uses : (script : List ℕ) (r : Run) → runs script ≡ Some r → UsesFirst runs script r) where
@@ -149,10 +150,10 @@ module _ (runs : List ℕ → Option Run) (uses : (script : List ℕ) (r : Run) 
 pub run_uses_only : (p : Checked) (f handle arg : ℕ) (script : List ℕ) (r : Run) → thread_run p f handle arg script ≡ Some r → UsesOnly (thread_run p f handle arg) script r
 run_uses_only p f handle arg script r e =
     let uses : (script : List ℕ) (r : Run) → thread_run p f handle arg script ≡ Some r → UsesFirst (thread_run p f handle arg) script r =
-    λ script r e. outcome_uses (setting_of p handle) arg script (slice_get (setting_of p handle).functions f) r e in
+    λ script r e. outcome_uses (setting_of p handle) refl arg script (slice_get (setting_of p handle).functions f) r e in
     uses_only (thread_run p f handle arg) uses script r (uses script r e)
 
-module _ (g : Setting) (arg : ℕ) (script : List ℕ) where
+module _ (g : Setting) (only : g.other ≡ no_other) (arg : ℕ) (script : List ℕ) where
   short_uses : (f : Function) (n : ℕ) (o : Outcome ⊥) → Reads ⊥ (thread_steps g f arg) (begins script) o → short_used (short_in (Some o)) ≡ Some n → n ≡ length script
   short_uses f n (Goes v t) h e = absurd v
   short_uses f n (Halts (Over ending) t) h e = absurd (let no : ◌≡◌ {A = Option ℕ} None (Some n) = e in cc)
@@ -161,11 +162,11 @@ module _ (g : Setting) (arg : ℕ) (script : List ℕ) where
 
   short_outcome_uses : (o : Option Function) (n : ℕ) → short_used (short_in (outcome_of g o arg script)) ≡ Some n → n ≡ length script
   short_outcome_uses None n e = absurd (let no : ◌≡◌ {A = Option ℕ} None (Some n) = e in cc)
-  short_outcome_uses (Some f) n e = short_uses f n (thread_steps g f arg (begins script)) (kept_thread g.handle IsReader (reader_keeps g.handle) g refl (length g.functions) f arg (begins script)) e
+  short_outcome_uses (Some f) n e = short_uses f n (thread_steps g f arg (begins script)) (kept_thread g.handle IsReader (reader_keeps g.handle) g refl (kept_no_other g.handle IsReader (reader_keeps g.handle) g only) (length g.functions) f arg (begins script)) e
 
 -- a run for which the script is too short has used all of it
 pub short_run_uses_all : (p : Checked) (f handle arg : ℕ) (script : List ℕ) (n : ℕ) → short_used (short_run p f handle arg script) ≡ Some n → n ≡ length script
-short_run_uses_all p f handle arg script n e = short_outcome_uses (setting_of p handle) arg script (slice_get (setting_of p handle).functions f) n e
+short_run_uses_all p f handle arg script n e = short_outcome_uses (setting_of p handle) refl arg script (slice_get (setting_of p handle).functions f) n e
 
 pub short_run_used : (p : Checked) (f handle arg : ℕ) (script : List ℕ) (s : ShortRun) → short_run p f handle arg script ≡ Some s → s.used ≡ length script
 short_run_used p f handle arg script s e = short_run_uses_all p f handle arg script s.used (ap short_used e)

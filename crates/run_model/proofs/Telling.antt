@@ -10,7 +10,7 @@ use Rattle.run_model.specs.declared.thread.RunStop.{RunStop}
 use Rattle.run_model.specs.declared.thread.RunStop.TheVariants as stop
 use Rattle.run_model.specs.declared.thread.ThreadRun.{ThreadRun}
 use Rattle.run_model.specs.Steps.{State}
-use Rattle.run_model.specs.Calls.{Setting}
+use Rattle.run_model.specs.Calls.{Setting, no_other}
 use Rattle.run_model.specs.Programs.{setting_of, shared_of}
 use Rattle.run_model.specs.Threads.{thread_within, thread_run, short_run, thread_outcome, outcome_of, begins}
 use Rattle.run_model.specs.Running.{Tells, IsShort, run_of}
@@ -19,7 +19,7 @@ use Rattle.run_model.proofs.Scripts.{short_run_uses_all}
 -- the run of a thread with these parts of a program is the program's
 module _ (p : Checked) (f handle arg : ℕ) (script : List ℕ) (h : Function) (r : Result ThreadRun RunStop) where
   abbrev with_parts : List Shared → List Item → Setting
-  with_parts shared items = record { shared = shared; functions = functions_of items; turns = p.k; handle = handle }
+  with_parts shared items = record { shared = shared; functions = functions_of items; turns = p.k; full = p.full; handle = handle; other = no_other }
 
   abbrev TellsFrom : List Shared → List Item → ℕ → State → Type 0
   TellsFrom shared items n s = Tells (Some (thread_within n (with_parts shared items) h arg s)) r

@@ -7,13 +7,14 @@ use Rattle.c_tree.specs.declared.program.Function.{Function}
 use Rattle.c_rules.specs.declared.builtin.Builtin.{Builtin}
 use Rattle.c_rules.specs.declared.builtin.Builtin.TheVariants as b
 use Rattle.c_rules.specs.Names.{Name}
-use Rattle.run_model.specs.declared.state.Ending.TheVariants.{Ended, Bad}
+use Rattle.run_model.specs.declared.state.Ending.TheVariants.{Ended, Stopped, Bound, Bad}
+use Rattle.run_model.specs.declared.state.Halt.TheVariants.{Over}
 use Rattle.run_model.specs.declared.state.Shared.{Shared}
 use Rattle.run_model.specs.declared.state.Need.TheVariants.{ReadOf, Truth, Any}
 use Rattle.run_model.specs.declared.state.Slot.{Slot}
 use Rattle.run_model.specs.declared.state.Slot.TheVariants.{Own, Common}
 use Rattle.run_model.specs.Names.{first_named}
-use Rattle.run_model.specs.Steps.{State, Step, ◌>>=◌, ◌>>◌, pure, nothing, look, change, ends, make, take_number, ask, outside, open_section, begin_section, end_section, stop, fail}
+use Rattle.run_model.specs.Steps.{State, Halts, Step, ◌>>=◌, ◌>>◌, pure, nothing, look, change, ends, make, take_number, ask, outside, open_section, begin_section, end_section, stop, fail}
 use Rattle.run_model.specs.Cells.{write}
 
 -- What an expression means: its evaluation; the finding of its cell, where it is an lvalue or an lvalue behind `&`;
@@ -24,12 +25,23 @@ pub record Meaning : Type 0 where
   pub unsigned : State → Bool
   pub spelled : Option Name
 
--- what a run needs of the program: its shared variables and its functions; the bound on loops; and the thread's own handle
+-- What a run needs of the program: its shared variables and its functions; the bound on loops, and whether the run ends where
+-- one is spent; the thread's own handle; and what a call does whose name is neither a function's with a body nor a built-in call's.
 pub record Setting : Type 0 where
   pub shared : List Shared
   pub functions : List Function
   pub turns : ℕ
+  pub full : Bool
   pub handle : ℕ
+  pub other : Name → List Meaning → Step ℕ
+
+-- a checked program has no such call
+abbrev pub no_other : Name → List Meaning → Step ℕ
+no_other name args = stop
+
+-- a loop's bound is spent: where that is told, the run ends at the loop's place, in a section too; else it goes no further
+abbrev pub spend : {A : Type 0} → Setting → Place → Step A
+spend g p = λ s. Halts (Over (cond g.full (Bound p) (cond (nat_eq s.depth 0) Stopped Bad))) s
 
 -- the same, with what a call of a function does, by the function's number
 pub record Context : Type 0 where

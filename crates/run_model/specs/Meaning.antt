@@ -90,9 +90,10 @@ abbrev pub result_unsigned : Setting → Name → Option ℕ → Bool
 result_unsigned g name (Some f) = returns_unsigned (slice_get g.functions f)
 result_unsigned g name None = is_uint_builtin (builtin_named name)
 
-abbrev pub call_builtin : Setting → Place → Option Builtin → List Meaning → Step ℕ
-call_builtin g p None args = stop
-call_builtin g p (Some b) args = builtin_call g p b args
+-- a call that is no function's with a body
+abbrev pub call_builtin : Setting → Place → Name → Option Builtin → List Meaning → Step ℕ
+call_builtin g p name None args = g.other name args
+call_builtin g p name (Some b) args = builtin_call g p b args
 
 -- the evaluations of arguments
 abbrev pub runs_of : List Meaning → List (Step ℕ)
@@ -101,7 +102,7 @@ runs_of ms = map (λ (m : Meaning). m.run) ms
 -- a function with a body comes before a built-in call of its name; its arguments are evaluated from left to right
 abbrev pub call : Context → Place → Name → List Meaning → Option ℕ → Step ℕ
 call cx p name args (Some f) = in_turn [] (runs_of args) >>= cx.call f
-call cx p name args None = call_builtin cx.setting p (builtin_named name) args
+call cx p name args None = call_builtin cx.setting p name (builtin_named name) args
 
 -- ---- the forms
 

@@ -15,7 +15,7 @@ use Rattle.c_check.specs.declared.checked.CellInfo.{CellInfo}
 use Rattle.c_check.specs.declared.checked.Checked.{Checked}
 use Rattle.run_model.specs.declared.state.Shared.{Shared}
 use Rattle.run_model.specs.Names.{first_named}
-use Rattle.run_model.specs.Calls.{Setting}
+use Rattle.run_model.specs.Calls.{Setting, no_other}
 
 -- the shared variable of a declarator, whose first cell has the number n
 abbrev pub shared_variable : ℕ → TypeWord → Declarator → Shared
@@ -39,7 +39,7 @@ shared_of items = shared_from [] 0 items
 
 -- what the run of a thread with this handle needs
 abbrev pub setting_of : Checked → ℕ → Setting
-setting_of p handle = record { shared = shared_of p.program.items; functions = functions_of p.program.items; turns = p.k; handle = handle }
+setting_of p handle = record { shared = shared_of p.program.items; functions = functions_of p.program.items; turns = p.k; full = p.full; handle = handle; other = no_other }
 
 -- what the memory models see of a program
 abbrev pub shape_of : Program → Shape

@@ -3,7 +3,7 @@ use Rattle.std.specs.Prelude.{◌≡◌, ℕ, List, Option, Some, option_map, Re
 use Rattle.axiom_model.specs.Failing.{Run}
 use Rattle.c_rules.specs.Names.{functions_of}
 use Rattle.run_model.specs.Steps.{State, Outcome, Goes, Halts}
-use Rattle.run_model.specs.Calls.{Setting, Context}
+use Rattle.run_model.specs.Calls.{Setting, Context, no_other}
 use Rattle.run_model.specs.Threads.{ShortRun, context_within, run_with, run_in, short_in}
 use Rattle.run_model.specs.declared.state.Stop.{Stop}
 use Rattle.run_model.specs.declared.state.Stop.TheVariants.{Halted, OutOfMemory}
@@ -23,7 +23,7 @@ Gives (Ok v) s o = Goes v s ≡ o
 Gives (Err e) s o = Stops e s o
 
 abbrev pub setting_at : Table → Setting
-setting_at t = record { shared = t.shared.now; functions = functions_of t.items.now; turns = t.turns; handle = t.handle }
+setting_at t = record { shared = t.shared.now; functions = functions_of t.items.now; turns = t.turns; full = t.full; handle = t.handle; other = no_other }
 
 -- the context of a table
 abbrev pub context_at : Table → Context

@@ -1,5 +1,6 @@
 -- What statements and declarations mean, each from what its parts mean.
 use Rattle.std.specs.Prelude.{ℕ, zero, suc, ◌+◌, List, [], ◌∷◌, ◌++◌, cond, Option, Some, None, length, map, replicate, take}
+use Rattle.dg_base.specs.declared.Place.{Place}
 use Rattle.dg_base.specs.Values.{is_true}
 use Rattle.c_tree.specs.declared.expr.TypeWord.{TypeWord}
 use Rattle.c_tree.specs.declared.expr.TypeWord.TheVariants as type
@@ -18,9 +19,9 @@ use Rattle.run_model.specs.declared.state.Flow.{Flow}
 use Rattle.run_model.specs.declared.state.Flow.TheVariants.{Next, Broke, Continued, Returned}
 use Rattle.run_model.specs.declared.state.Need.TheVariants.{Any}
 use Rattle.run_model.specs.declared.state.Slot.TheVariants.{Own}
-use Rattle.run_model.specs.Steps.{Step, ◌>>=◌, ◌>>◌, pure, nothing, look, change, take_number, stop}
+use Rattle.run_model.specs.Steps.{Step, ◌>>=◌, ◌>>◌, pure, nothing, look, change, take_number}
 use Rattle.run_model.specs.Cells.{write}
-use Rattle.run_model.specs.Calls.{Context}
+use Rattle.run_model.specs.Calls.{Context, spend}
 use Rattle.run_model.specs.Meaning.{eval}
 
 -- goes on where a statement came to its end
@@ -58,21 +59,21 @@ unless_left (Some f) more = pure f
 abbrev pub after_body : Flow → Step Flow → Step Flow
 after_body f more = unless_left (leaves f) more
 
--- the body at most so many times; where the test still holds after that, the run goes no further
-abbrev pub loop : ℕ → Step ℕ → Step Flow → Step (Unit {0}) → Step Flow
-loop zero test body step = do
+-- the body at most so many times; where the test still holds after that, the bound is spent
+abbrev pub loop : Step Flow → ℕ → Step ℕ → Step Flow → Step (Unit {0}) → Step Flow
+loop spent zero test body step = do
   v ← test
-  cond (is_true v) stop (pure Next)
-loop (suc n) test body step = do
+  cond (is_true v) spent (pure Next)
+loop spent (suc n) test body step = do
   v ← test
-  cond (is_true v) (body >>= (λ f. after_body f (step >> loop n test body step))) (pure Next)
+  cond (is_true v) (body >>= (λ f. after_body f (step >> loop spent n test body step))) (pure Next)
 
 -- the same for a loop whose test stands behind its body
-abbrev pub do_loop : ℕ → Step ℕ → Step Flow → Step Flow
-do_loop zero test body = stop
-do_loop (suc n) test body = body >>= (λ f. after_body f (do
+abbrev pub do_loop : Step Flow → ℕ → Step ℕ → Step Flow → Step Flow
+do_loop spent zero test body = spent
+do_loop spent (suc n) test body = body >>= (λ f. after_body f (do
   v ← test
-  cond (is_true v) (do_loop n test body) (pure Next)))
+  cond (is_true v) (do_loop spent n test body) (pure Next)))
 
 -- ---- declarations
 
@@ -115,9 +116,10 @@ abbrev pub eval_if : Context → ℕ → Option Expr → Step ℕ
 eval_if cx other None = pure other
 eval_if cx other (Some e) = eval cx e
 
+-- the statement behind an `else`, if there is one
 abbrev pub if_any : Option (Step Flow) → Step Flow
 if_any None = pure Next
-if_any (Some m) = m
+if_any (Some m) = scoped m
 
 abbrev pub begin_for : Context → Start → Step (Unit {0})
 begin_for cx start.Nothing = nothing
@@ -125,22 +127,22 @@ begin_for cx (start.Expr e) = eval cx e >> nothing
 begin_for cx (start.Declare d) = declare_all cx d.word d.declarators
 
 -- a loop with its test before the body; a `for` without a test is one whose test holds
-abbrev pub turns : Context → Option Expr → Option Expr → Step Flow → Step Flow
-turns cx t e m = loop cx.setting.turns (eval_if cx 1 t) m (eval_if cx 0 e >> nothing)
+abbrev pub turns : Context → Place → Option Expr → Option Expr → Step Flow → Step Flow
+turns cx p t e m = loop (spend cx.setting p) cx.setting.turns (eval_if cx 1 t) (scoped m) (eval_if cx 0 e >> nothing)
 
--- a statement's meaning, from the meanings of its parts
+-- A statement's meaning, from the meanings of its parts. A statement that is part of another one is a scope of its own.
 abbrev pub stmt_step : Context → Stmt-F (Step Flow) → Step Flow
 stmt_step cx (Stmt-F.Empty p) = pure Next
 stmt_step cx (Stmt-F.Expr p e) = eval cx e >> pure Next
 stmt_step cx (Stmt-F.Declare d) = declare_all cx d.word d.declarators >> pure Next
 stmt_step cx (Stmt-F.Block p ms) = scoped (sequence ms)
-stmt_step cx (Stmt-F.Label p n m) = m
+stmt_step cx (Stmt-F.Label p n m) = scoped m
 stmt_step cx (Stmt-F.If p t a b) = do
   v ← eval cx t
-  cond (is_true v) a (if_any b)
-stmt_step cx (Stmt-F.While p t m) = turns cx (Some t) None m
-stmt_step cx (Stmt-F.DoWhile p m t) = do_loop cx.setting.turns (eval cx t) m
-stmt_step cx (Stmt-F.For p first t e m) = scoped (begin_for cx first >> turns cx t e m)
+  cond (is_true v) (scoped a) (if_any b)
+stmt_step cx (Stmt-F.While p t m) = turns cx p (Some t) None m
+stmt_step cx (Stmt-F.DoWhile p m t) = do_loop (spend cx.setting p) cx.setting.turns (eval cx t) (scoped m)
+stmt_step cx (Stmt-F.For p first t e m) = scoped (begin_for cx first >> turns cx p t e m)
 stmt_step cx (Stmt-F.Return p e) = do
   v ← eval_if cx 0 e
   pure (Returned v)

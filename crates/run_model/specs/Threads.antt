@@ -6,13 +6,13 @@ use Rattle.axiom_model.specs.declared.Action.{Action}
 use Rattle.axiom_model.specs.declared.Action.TheVariants.{Start}
 use Rattle.axiom_model.specs.declared.MemoryModel.{MemoryModel}
 use Rattle.axiom_model.specs.declared.Candidate.{Candidate}
-use Rattle.axiom_model.specs.Failing.{Run, Runs, FailingExecution}
+use Rattle.axiom_model.specs.Failing.{Run, Runs, AllowedExecution, FailingExecution}
 use Rattle.c_tree.specs.declared.program.Param.{Param}
 use Rattle.c_tree.specs.declared.program.Function.{Function}
 use Rattle.c_tree.specs.Operators.{word_unsigned}
 use Rattle.c_check.specs.declared.checked.Checked.{Checked}
 use Rattle.run_model.specs.declared.state.Ending.{Ending}
-use Rattle.run_model.specs.declared.state.Ending.TheVariants.{Ended, Failed, Bad}
+use Rattle.run_model.specs.declared.state.Ending.TheVariants.{Ended, Failed, Bound, Bad}
 use Rattle.run_model.specs.declared.state.Flow.{Flow}
 use Rattle.run_model.specs.declared.state.Flow.TheVariants.{Returned}
 use Rattle.run_model.specs.declared.state.Halt.TheVariants.{Over, Short}
@@ -106,13 +106,19 @@ abbrev pub is_bad : Ending → Bool
 is_bad Bad = true
 is_bad _ = false
 
+-- where a run fails: an assertion, or a loop whose bound is spent
 abbrev pub failed_at : Ending → Option Place
 failed_at (Failed p) = Some p
+failed_at (Bound p) = Some p
 failed_at _ = None
+
+abbrev pub is_bound : Ending → Bool
+is_bound (Bound p) = true
+is_bound _ = false
 
 -- a run that is over, by its actions, its ending and how many numbers it used
 abbrev pub run_with : List Action → Ending → ℕ → Run
-run_with actions e used = record { actions = actions; ended = has_ended e; bad = is_bad e; failed = failed_at e; used = used }
+run_with actions e used = record { actions = actions; ended = has_ended e; bad = is_bad e; failed = failed_at e; bound = is_bound e; used = used }
 
 abbrev pub run_in : Option (Outcome ⊥) → Option Run
 run_in None = None
@@ -140,6 +146,10 @@ thread_run p f handle arg script = run_in (thread_outcome p f handle arg script)
 abbrev pub short_run : Checked → ℕ → ℕ → ℕ → List ℕ → Option ShortRun
 short_run p f handle arg script = short_in (thread_outcome p f handle arg script)
 
--- a candidate that is an execution of the program, that the model allows, and that fails an assertion
+-- a candidate that is an execution of the program, and that the model allows
+abbrev pub ProgramAllows : Checked → MemoryModel → Candidate → Type 0
+ProgramAllows p m c = AllowedExecution (shape_of p.program) (thread_run p) m c
+
+-- such an execution in which some thread fails
 abbrev pub ProgramFails : Checked → MemoryModel → Candidate → Type 0
 ProgramFails p m c = FailingExecution (shape_of p.program) (thread_run p) m c

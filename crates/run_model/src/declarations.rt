@@ -103,6 +103,7 @@ impl<'a> Runner<'a> {
                 TypeWord::Void => self.take_cells(local, count),
                 TypeWord::VoidPointer => self.take_cells(local, count),
                 TypeWord::Mutex => self.take_cells(local, count),
+                TypeWord::Cond => self.take_cells(local, count),
             },
             Some(Initialiser::One(value)) => {
                 let v = self.eval(table, room, value)?;

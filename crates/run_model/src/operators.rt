@@ -69,5 +69,6 @@ pub(crate) fn word_unsigned(word: TypeWord) -> bool
         TypeWord::VoidPointer => true,
         TypeWord::Thread => true,
         TypeWord::Mutex => false,
+        TypeWord::Cond => false,
     }
 }

@@ -4,8 +4,9 @@ ghost use Rattle.run_model.specs.Steps as steps;
 ghost use Rattle.run_model.specs.Running.{Gives};
 ghost use Rattle.run_model.specs.declared.state.Stop.TheVariants.{Halted, OutOfMemory};
 ghost use Rattle.run_model.specs.declared.state.Halt.TheVariants.{Over};
-ghost use Rattle.run_model.specs.declared.state.Ending.TheVariants.{Bad, Stopped, Failed};
+ghost use Rattle.run_model.specs.declared.state.Ending.TheVariants.{Bad, Bound, Stopped, Failed};
 
+use crate::table::Table;
 use axiom_model::Action;
 use dg_base::{Bytes, List, Place};
 use std::alloc::Global;
@@ -16,10 +17,13 @@ use std::marker::Model;
 pub enum Ending {
     /// The thread came to its end.
     Ended,
-    /// It goes no further: an assumption does not hold, a loop has used up its bound, or a choice was to wait.
+    /// It goes no further: an assumption does not hold, a loop has used up its bound where that is not told, or a choice was to
+    /// wait.
     Stopped,
     /// An assertion fails at this place, or a division by 0, or an index is out of range.
     Failed(Place),
+    /// A loop at this place has used up its bound, and that is told.
+    Bound(Place),
     /// A choice was made that no execution makes.
     Bad,
 }
@@ -144,6 +148,17 @@ impl<'a> Runner<'a> {
         match self.actions.push(action) {
             Ok(()) => Ok(()),
             Err(_) => Err(Stop::OutOfMemory),
+        }
+    }
+
+    /// A loop at this place has used up its bound: where that is told the run ends there, else it goes no further.
+    pub(crate) fn spend(&self, table: &Table, place: Place) -> Stop
+        ensures { result ≡ Halted (Over (cond table.now.full (Bound place) (cond (nat_eq self.now.depth 0) Stopped Bad))) }
+    {
+        if table.full {
+            Stop::Halted(Halt::Over(Ending::Bound(place)))
+        } else {
+            self.stop()
         }
     }
 

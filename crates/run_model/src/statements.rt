@@ -2,11 +2,13 @@
 ghost use Rattle.std.specs.Prelude.{◌≡◌, option_copied};
 ghost use Rattle.run_model.specs.Meaning as meanings;
 ghost use Rattle.run_model.specs.Statements as statements;
-ghost use Rattle.run_model.specs.Running.{Gives, context_at};
+ghost use Rattle.run_model.specs.Running.{Gives, context_at, setting_at};
+ghost use Rattle.run_model.specs.Calls.{spend};
 
 use crate::state::{Flow, Runner, Stop, inner};
 use crate::table::Table;
 use c_tree::{Expr, Start, Stmt};
+use dg_base::Place;
 
 // An expression that may be absent, behind a reference.
 fn part(expr: &Option<Expr>) -> Option<&Expr>
@@ -54,28 +56,32 @@ impl<'a> Runner<'a> {
                 self.locals.truncate(outer);
                 Ok(flow)
             }
-            Stmt::Label { body, .. } => self.exec(table, room, body.get()),
+            Stmt::Label { body, .. } => self.branch(table, room, body.get()),
             Stmt::If { test, yes, no, .. } => {
                 if self.eval(table, room, test)? != 0 {
-                    return self.exec(table, room, yes.get());
+                    return self.branch(table, room, yes.get());
                 }
                 match no {
                     None => Ok(Flow::Next),
-                    Some(no) => self.exec(table, room, no.get()),
+                    Some(no) => self.branch(table, room, no.get()),
                 }
             }
-            Stmt::While { test, body, .. } => self.turns(table, room, Some(test), None, body.get()),
-            Stmt::DoWhile { body, test, .. } => self.do_turns(table, room, body.get(), test),
+            Stmt::While { place, test, body } => {
+                self.turns(table, room, *place, Some(test), None, body.get())
+            }
+            Stmt::DoWhile { place, body, test } => {
+                self.do_turns(table, room, *place, body.get(), test)
+            }
             Stmt::For {
                 start,
                 test,
                 step,
                 body,
-                ..
+                place,
             } => {
                 let outer = self.locals.len();
                 self.begin_for(table, room, start)?;
-                let flow = self.turns(table, room, part(test), part(step), body.get())?;
+                let flow = self.turns(table, room, *place, part(test), part(step), body.get())?;
                 self.locals.truncate(outer);
                 Ok(flow)
             }
@@ -86,6 +92,18 @@ impl<'a> Runner<'a> {
             Stmt::Break { .. } => Ok(Flow::Broke),
             Stmt::Continue { .. } => Ok(Flow::Continued),
         }
+    }
+
+    // A statement that is part of another one: what it declares is gone behind it.
+    #[cycle(run)]
+    #[tactic(auto, using(crate::proofs::Passing::passes))]
+    fn branch(&mut self, table: &Table, room: usize, stmt: &Stmt) -> Result<Flow, Stop>
+        ensures { Gives result self.new (statements.scoped (statements.execute (context_at table.now) stmt.now) self.old) }
+    {
+        let outer = self.locals.len();
+        let flow = self.exec(table, room, stmt)?;
+        self.locals.truncate(outer);
+        Ok(flow)
     }
 
     /// Statements in turn, up to one that does not leave off at its end.
@@ -115,17 +133,18 @@ impl<'a> Runner<'a> {
         &mut self,
         table: &Table,
         room: usize,
+        place: Place,
         test: Option<&Expr>,
         step: Option<&Expr>,
         body: &Stmt,
     ) -> Result<Flow, Stop>
-        ensures { Gives result self.new (statements.turns (context_at table.now) (option_copied test.entry) (option_copied step.entry) (statements.execute (context_at table.now) body.now) self.old) }
+        ensures { Gives result self.new (statements.turns (context_at table.now) place (option_copied test.entry) (option_copied step.entry) (statements.execute (context_at table.now) body.now) self.old) }
     {
         for _turn in 0..table.turns {
             if self.optional(table, room, test, 1)? == 0 {
                 return Ok(Flow::Next);
             }
-            if let Some(flow) = leaves(self.exec(table, room, body)?) {
+            if let Some(flow) = leaves(self.branch(table, room, body)?) {
                 return Ok(flow);
             }
             self.optional(table, room, step, 0)?;
@@ -133,7 +152,7 @@ impl<'a> Runner<'a> {
         if self.optional(table, room, test, 1)? == 0 {
             return Ok(Flow::Next);
         }
-        Err(self.stop())
+        Err(self.spend(table, place))
     }
 
     // The turns of a loop with its test behind the body.
@@ -143,20 +162,21 @@ impl<'a> Runner<'a> {
         &mut self,
         table: &Table,
         room: usize,
+        place: Place,
         body: &Stmt,
         test: &Expr,
     ) -> Result<Flow, Stop>
-        ensures { Gives result self.new (statements.do_loop table.now.turns (meanings.eval (context_at table.now) test.now) (statements.execute (context_at table.now) body.now) self.old) }
+        ensures { Gives result self.new (statements.do_loop (spend (setting_at table.now) place) table.now.turns (meanings.eval (context_at table.now) test.now) (statements.scoped (statements.execute (context_at table.now) body.now)) self.old) }
     {
         for _turn in 0..table.turns {
-            if let Some(flow) = leaves(self.exec(table, room, body)?) {
+            if let Some(flow) = leaves(self.branch(table, room, body)?) {
                 return Ok(flow);
             }
             if self.eval(table, room, test)? == 0 {
                 return Ok(Flow::Next);
             }
         }
-        Err(self.stop())
+        Err(self.spend(table, place))
     }
 
     // The start of a `for`.

@@ -23,6 +23,8 @@ pub struct Table<'a> {
     pub items: &'a [Item],
     /// How often a loop runs at most.
     pub turns: u32,
+    /// Whether a run ends where a loop has used up its bound.
+    pub full: bool,
     /// The thread's handle.
     pub handle: u32,
     /// How deep calls may still stand in one another.

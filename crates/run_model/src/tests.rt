@@ -43,18 +43,21 @@ fn write_run(text: &mut String, run: &ThreadRun) -> Result<(), Fail> {
         Ending::Stopped => text.push_str("Stopped")?,
         Ending::Bad => text.push_str("Bad")?,
         Ending::Failed(place) => write!(text, "Failed at {}", place.col)?,
+        Ending::Bound(place) => write!(text, "Bound at {}", place.col)?,
     }
     write!(text, " {}", run.used)?;
     Ok(())
 }
 
-// The run of a program's last function with the handle 3 and the argument 9, where loops run twice.
-fn told(alloc: Global, program: &str, script: &[u32]) -> Result<String, Fail> {
+// The run of a program's last function with the handle 3 and the argument 9, where loops run twice, and a spent bound is told
+// or not.
+fn told_with(alloc: Global, full: bool, program: &str, script: &[u32]) -> Result<String, Fail> {
     let checked = Checked {
         program: builder::program(alloc, program)?,
         functions: List::new(alloc),
         cells: List::new(alloc),
         k: 2,
+        full,
     };
     let count = count_functions(checked.program.items.as_slice());
     let mut text = String::new(alloc);
@@ -68,6 +71,10 @@ fn told(alloc: Global, program: &str, script: &[u32]) -> Result<String, Fail> {
         Err(RunStop::OutOfMemory) => text.push_str("no memory")?,
     }
     Ok(text)
+}
+
+fn told(alloc: Global, program: &str, script: &[u32]) -> Result<String, Fail> {
+    told_with(alloc, false, program, script)
 }
 
 fn check(rt: &impl Abort, alloc: Global, rows: &[Row]) -> Result<(), Fail> {
@@ -454,6 +461,57 @@ fn threads() -> &'static [Row] {
 fn cells_and_operators(rt: HostRuntime) -> Result<(), Fail> {
     check(&rt, rt.alloc(), cells())?;
     check(&rt, rt.alloc(), operators())
+}
+
+// Loops that use up their bound where that is told.
+fn spent_loops() -> &'static [Row] {
+    &[
+        (
+            "@x @r fn:f r 1 = ; x while end",
+            &[1, 1, 1],
+            "Start R0=1 W1=1 R0=1 W1=1 R0=1 Bound at 9 3",
+        ),
+        (
+            "@x @r fn:f r 1 = ; x while end",
+            &[1, 1, 0],
+            "Start R0=1 W1=1 R0=1 W1=1 R0=0 End Ended 3",
+        ),
+        (
+            "@x @r fn:f r 1 = ; x do end",
+            &[1, 1],
+            "Start W1=1 R0=1 W1=1 R0=1 Bound at 9 2",
+        ),
+        (
+            "@x @r fn:f r 1 = ; for;; end",
+            &[],
+            "Start W1=1 W1=1 Bound at 8 0",
+        ),
+        (
+            "@x fn:f __VERIFIER_atomic_begin()0 ; x 1 = ; 1 while end",
+            &[1],
+            "Start Open W0=1 W0=1 Bound at 10 1",
+        ),
+    ]
+}
+
+#[test]
+fn spent_bounds(rt: HostRuntime) -> Result<(), Fail> {
+    for (program, script, wanted) in spent_loops() {
+        let text = told_with(rt.alloc(), true, program, script)?;
+        assert_eq!(rt; text.as_str(), *wanted, "at {program}");
+    }
+    check(
+        &rt,
+        rt.alloc(),
+        &[
+            (
+                "@x fn:f __VERIFIER_atomic_begin()0 ; x 1 = ; 1 while end",
+                &[1],
+                "Start Open W0=1 W0=1 Bad 1",
+            ),
+            ("@x fn:f 5 .x= 1 if x 2 = ; end", &[], "Start W0=2 End Ended 0"),
+        ],
+    )
 }
 
 #[test]

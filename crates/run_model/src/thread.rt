@@ -104,6 +104,7 @@ pub fn run_thread(
         shared: shared.as_slice(),
         items,
         turns: checked.k,
+        full: checked.full,
         handle,
         calls: count_functions(items),
     };

@@ -99,6 +99,7 @@ fn checked(alloc: Global) -> Result<Checked, AllocError>
         functions: functions(alloc)?,
         cells: cells(alloc)?,
         k: 1,
+        full: false,
     })
 }
 

@@ -37,7 +37,7 @@ static int a[CELLS], x = 3;
 void *f(void *p) { x = 1; return 0; }
 int main(void) { a[1] = x; return 0; }
 ";
-    match read_program(rt.alloc(), text.as_bytes(), 5) {
+    match read_program(rt.alloc(), text.as_bytes(), 5, false) {
         Ok(checked) => {
             assert!(rt; has_functions(&checked, &["f", "main"]));
             assert!(rt; has_cells(&checked, &[("a[0]", 0), ("a[1]", 0), ("x", 3)]));
@@ -53,7 +53,7 @@ int main(void) { a[1] = x; return 0; }
 fn refused(alloc: Global, text: &str, bound: u32) -> Option<Refusal>
     requires { (1 ≤ bound) × (bound ≤ 64) }
 {
-    match read_program(alloc, text.as_bytes(), bound) {
+    match read_program(alloc, text.as_bytes(), bound, false) {
         Ok(checked) => {
             drop(checked);
             None

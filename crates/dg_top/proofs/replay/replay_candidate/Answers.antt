@@ -11,9 +11,9 @@ returns-in-Ok c =
     let p = c.args.checked.now in
     let f = c.in-Ok.failing in
     let x = c.in-Ok.ensures.fails in
-    if_ok c.failing_at.result (Spells (Failing f.handle f.place)) (IsOneOf (IsReplay c.args.model p c.args.witness.now)) (λ r spelled. record {
-      answer = Failing f.handle f.place;
-      allowed = failing c.args.candidate.now f.handle f.place c.requires.spelled x (first_of p c.args.model c.args.candidate.now x f.handle f.place c.in-Ok.ensures.first);
+    if_ok c.failing_at.result (Spells (Failing f.handle f.place f.bound)) (IsOneOf (IsReplay c.args.model p c.args.witness.now)) (λ r spelled. record {
+      answer = Failing f.handle f.place f.bound;
+      allowed = failing c.args.candidate.now f.handle f.place f.bound c.requires.spelled x (first_of p c.args.model c.args.candidate.now x f.handle f.place f.bound c.in-Ok.ensures.first);
       spelled = spelled;
     }) c.failing_at.ensures
 

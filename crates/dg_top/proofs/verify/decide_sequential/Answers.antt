@@ -1,4 +1,4 @@
-use Rattle.std.proofs.Common.{Some, ap, ◌∙◌}
+use Rattle.std.proofs.Common.{Some, false, ap, ◌∙◌}
 use Rattle.axiom_model.specs.declared.MemoryModel.TheVariants.{Sc}
 use Rattle.form_verdict.specs.declared.verdict.FormVerdict.TheVariants as verdict
 use Rattle.dg_top.specs.Answers.{IsVerdict, NotYet, Safe, Unsafe, not_yet, safe, unsafe}
@@ -21,9 +21,9 @@ returns-in-Some-Unsafe c =
     let p = c.args.checked.now in
     let f = c.in-Some-Unsafe.failure in
     let shown = told p c.in_ok-decide_form.field-0 (verdict.Unsafe f) c.in_ok-decide_form.ensures.verdict (c.in-Some-Unsafe.is ∙ ap Some c.in-Some-Unsafe.field-0-is) in
-    if_ok c.unsafe_at.result (Spells (Unsafe p f.candidate f.handle f.place)) (IsOneOf (IsVerdict Sc p)) (λ r spelled. record {
-      answer = Unsafe p f.candidate f.handle f.place;
-      allowed = unsafe f.candidate f.handle f.place (decided p c.in_ok-decide_form.field-0 _ c.in_ok-decide_form.ensures.none c.in-Some-Unsafe.is) shown.fails shown.first;
+    if_ok c.unsafe_at.result (Spells (Unsafe p f.candidate f.handle f.place false)) (IsOneOf (IsVerdict Sc p)) (λ r spelled. record {
+      answer = Unsafe p f.candidate f.handle f.place false;
+      allowed = unsafe f.candidate f.handle f.place false (decided p c.in_ok-decide_form.field-0 _ c.in_ok-decide_form.ensures.none c.in-Some-Unsafe.is) shown.fails shown.first;
       spelled = spelled;
     }) c.unsafe_at.ensures
 

@@ -1,8 +1,9 @@
 use Rattle.std.proofs.Common.{◌≡◌, ◌-◌, ◌+◌, ◌*◌, drop, map, []}
 use Rattle.std.specs.Prelude.{option_copied}
 use Rattle.run_model.specs.Steps.{in_turn, nothing, ◌>>◌}
+use Rattle.run_model.specs.Calls.{spend}
 use Rattle.run_model.specs.Meaning.{eval, meaning, runs_of}
-use Rattle.run_model.specs.Statements.{execute, execute_all, loop, do_loop, store_from, declare_all, eval_if}
+use Rattle.run_model.specs.Statements.{execute, execute_all, scoped, loop, do_loop, store_from, declare_all, eval_if}
 use Rattle.run_model.specs.Running.{context_at}
 use Rattle.run_model.proofs.state.Runner.+run.Given as goal
 
@@ -42,8 +43,11 @@ decreases-store_values l = 8 * l.room + 1
 abbrev pub decreases-sequence : goal.decreases-sequence
 decreases-sequence l = 8 * l.room + 1
 
+abbrev pub decreases-branch : goal.decreases-branch
+decreases-branch l = 8 * l.room + 1
+
 abbrev pub decreases-do_turns : goal.decreases-do_turns
-decreases-do_turns l = 8 * l.room + 1
+decreases-do_turns l = 8 * l.room + 2
 
 abbrev pub decreases-turns : goal.decreases-turns
 decreases-turns l = 8 * l.room + 2
@@ -87,10 +91,11 @@ invariant-sequence-loop-stmt l = execute_all (context_at l.table) (drop l.stmt-i
 abbrev pub invariant-turns-loop-turn : goal.invariant-turns-loop-turn
 invariant-turns-loop-turn l =
     let cx = context_at l.table in
-    loop (l.table.turns - l._turn) (eval_if cx 1 (option_copied l.test)) (execute cx l.body) (eval_if cx 0 (option_copied l.step) >> nothing) l.self
-    ≡ loop l.table.turns (eval_if cx 1 (option_copied l.test)) (execute cx l.body) (eval_if cx 0 (option_copied l.step) >> nothing) l.fn.self
+    loop (spend cx.setting l.place) (l.table.turns - l._turn) (eval_if cx 1 (option_copied l.test)) (scoped (execute cx l.body)) (eval_if cx 0 (option_copied l.step) >> nothing) l.self
+    ≡ loop (spend cx.setting l.place) l.table.turns (eval_if cx 1 (option_copied l.test)) (scoped (execute cx l.body)) (eval_if cx 0 (option_copied l.step) >> nothing) l.fn.self
 
 abbrev pub invariant-do_turns-loop-turn : goal.invariant-do_turns-loop-turn
 invariant-do_turns-loop-turn l =
     let cx = context_at l.table in
-    do_loop (l.table.turns - l._turn) (eval cx l.test) (execute cx l.body) l.self ≡ do_loop l.table.turns (eval cx l.test) (execute cx l.body) l.fn.self
+    do_loop (spend cx.setting l.place) (l.table.turns - l._turn) (eval cx l.test) (scoped (execute cx l.body)) l.self
+    ≡ do_loop (spend cx.setting l.place) l.table.turns (eval cx l.test) (scoped (execute cx l.body)) l.fn.self
