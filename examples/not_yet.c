@@ -1,1 +1,2 @@
+/* A program that verify does not decide yet. */
 int main() { return 1; }

@@ -1,3 +1,4 @@
+/* A name that was never declared. */
 int main() {
   x = 1;
   return 0;

@@ -1,6 +1,12 @@
+/* Two threads write one value: whichever comes last, the assertion holds. */
+#include <assert.h>
+#include <pthread.h>
+
 int x;
+
 void *a(void *p) { x = 1; return 0; }
-void *b(void *p) { x = 2; return 0; }
+void *b(void *p) { x = 1; return 0; }
+
 int main() {
   pthread_t s, t;
   pthread_create(&s, 0, a, 0);

@@ -1,4 +1,0 @@
-int x;
-int main() {
-  assert(x == 1);
-return 0; }
