@@ -1,4 +1,3 @@
-mod Fits
 pub mod Folded
 pub mod Arguments
 pub mod Pushed

@@ -1,3 +1,4 @@
 mod Files
-mod Fits
+pub mod Fits
+pub mod Lists
 mod Rows

@@ -1,36 +1,40 @@
 -- What is said of a desk: its files, what it printed, and its faults.
-use Rattle.std.specs.Prelude.{◌≡◌, ◌≢◌, ◌⊎◌, ℕ, ◌-◌, ◌^◌, ◌<◌, ◌≤◌, List, [], ◌∷◌, ◌++◌, Option, Some, None, Result, Ok, Err, if◌then◌else◌, bytes_eq, length, take, unwrap_or}
+use Rattle.std.specs.Prelude.{◌≡◌, ◌≢◌, ◌⊎◌, ℕ, ◌+◌, ◌-◌, ◌^◌, ◌<◌, ◌≤◌, List, [], ◌∷◌, ◌++◌, Option, Some, None, Result, Ok, Err, if◌then◌else◌, bytes_eq, length, min, take, unwrap_or}
 use Rattle.dg_base.specs.declared.outside.Trouble.{Trouble}
 use Rattle.dg_base.specs.declared.outside.Trouble.TheVariants.{Failed, Long}
-use Rattle.dg_base.specs.declared.outside.Errand.{Errand}
-use Rattle.dg_base.specs.declared.outside.Errand.TheVariants.{Nothing}
+use Rattle.dg_base.specs.declared.outside.Operation.{Operation}
+use Rattle.dg_base.specs.declared.outside.Operation.TheVariants.{Nothing}
 use Rattle.dg_base.specs.declared.outside.FileEntry.{FileEntry}
 use Rattle.dg_base.specs.declared.outside.TheConstants.{LONGEST_FILE}
 
--- how many calls answered Failed, and the errand and the name of the last of them
+-- how many calls answered Failed, and the operation and the name of the last of them
 pub record Faults : Type 0 where
   pub count : ℕ
-  pub errand : Errand
+  pub operation : Operation
   pub name : List ℕ
 
 abbrev pub no_faults : Faults
-no_faults = record { count = 0; errand = Nothing; name = [] }
+no_faults = record { count = 0; operation = Nothing; name = [] }
+
+-- one fault more, of this operation on this name; the count stands still at the end of the numbers of 64 bits
+abbrev pub one_more : Operation → List ℕ → Faults → Faults
+one_more operation name before = record { count = min (before.count + 1) (2 ^ 64 - 1); operation = operation; name = name }
 
 -- the count is greater than before, or stands at the end of the numbers of 64 bits
 abbrev pub Rose : ℕ → ℕ → Type 0
 Rose before now = (before < now) ⊎ ((before ≤ now) × (now ≡ 2 ^ 64 - 1))
 
--- a fault of this errand on this name came
-pub record IsFault (errand : Errand) (name : List ℕ) (before now : Faults) : Type 0 where
+-- a fault of this operation on this name came
+pub record IsFault (operation : Operation) (name : List ℕ) (before now : Faults) : Type 0 where
   pub rose : Rose before.count now.count
-  pub errand_is : now.errand ≡ errand
+  pub operation_is : now.operation ≡ operation
   pub name_is : now.name ≡ name
 
--- Failed comes only with a fault of this errand on this name, and any other answer without a fault
-abbrev pub HasCause : {T : Type 0} → Errand → List ℕ → Faults → Faults → Result T Trouble → Type 0
-HasCause errand name before now (Ok v) = now ≡ before
-HasCause errand name before now (Err Failed) = IsFault errand name before now
-HasCause errand name before now (Err _) = now ≡ before
+-- Failed comes only with a fault of this operation on this name, and any other answer without a fault
+abbrev pub HasCause : {T : Type 0} → Operation → List ℕ → Faults → Faults → Result T Trouble → Type 0
+HasCause operation name before now (Ok v) = now ≡ before
+HasCause operation name before now (Err Failed) = IsFault operation name before now
+HasCause operation name before now (Err _) = now ≡ before
 
 -- the fact holds where the value is told
 abbrev pub Told : {A : Type 0} → (A → Type 0) → Option A → Type 0

@@ -1,16 +1,16 @@
 // The record of a desk's faults.
 ghost use Rattle.std.specs.Prelude.{◌≡◌};
-ghost use Rattle.dg_base.specs.Outside.{IsFault, no_faults};
+ghost use Rattle.dg_base.specs.Outside.{IsFault, no_faults, one_more};
 
-use crate::{Bytes, Errand};
+use crate::{Bytes, Operation};
 use std::alloc::Global;
 use std::marker::Model;
 
-// How often the outside failed, with the errand and the name of the last fault.
+// How often the outside failed, with the operation and the name of the last fault.
 #[derive(Debug, Drop)]
 pub struct FaultLog {
     count: u64,
-    errand: Errand,
+    operation: Operation,
     name: Bytes,
 }
 
@@ -19,26 +19,28 @@ impl Model for FaultLog {
 
     ghost Value = { Faults };
 
-    ghost view = { λ log. record { count = log.count; errand = log.errand; name = log.name } };
+    ghost view = { λ log. record { count = log.count; operation = log.operation; name = log.name } };
 }
 
 impl FaultLog {
+    // No faults yet.
     pub fn new(alloc: Global) -> FaultLog
         ensures { result ≡ no_faults }
     {
         FaultLog {
             count: 0,
-            errand: Errand::Nothing,
+            operation: Operation::Nothing,
             name: Bytes::new(alloc),
         }
     }
 
-    // The count stands still at its type's end.
-    pub fn note(&mut self, errand: Errand, name: Bytes)
-        ensures { IsFault errand name self.old self.new }
+    // One fault more. The count stands still at its type's end.
+    pub fn note(&mut self, operation: Operation, name: Bytes)
+        ensures one { self.new ≡ one_more operation name self.old }
+        ensures fault { IsFault operation name self.old self.new }
     {
         self.count = self.count.saturating_add(1);
-        self.errand = errand;
+        self.operation = operation;
         self.name = name;
     }
 }

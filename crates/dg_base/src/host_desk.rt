@@ -1,9 +1,9 @@
 // The desk of the machine: std's files and standard output.
-ghost use Rattle.std.specs.Prelude.{◌≡◌, None};
-ghost use Rattle.dg_base.specs.Outside.{no_faults};
+ghost use Rattle.std.specs.Prelude.{◌≡◌, [], None, vec_items};
+ghost use Rattle.dg_base.specs.Outside.{Fetches, Told, no_faults};
 
 use crate::faults::FaultLog;
-use crate::{Bytes, Desk, Errand, LONGEST_FILE, Trouble};
+use crate::{Bytes, Desk, LONGEST_FILE, Operation, Trouble};
 use std::alloc::Global;
 use std::fs;
 use std::io::Read;
@@ -31,26 +31,32 @@ impl<'a, R: Files + Print> HostDesk<'a, R> {
     }
 }
 
-// The file's bytes, read to their end.
-fn read_file<R: Files>(rt: &R, alloc: Global, name: &str) -> Result<Vec<u8>, Trouble> {
+// Reads what the reader has left to its end.
+pub(crate) fn read_rest<F: Read>(reader: &mut F, into: &mut Vec<u8>) -> Result<(), Trouble>
+    requires { into.old.items ≡ [] }
+    ensures { Told (λ bytes. Fetches bytes into.new.items result) (F.remaining reader.old) }
+{
+    let mut chunk = [0u8; 4096];
+    while into.len() <= LONGEST_FILE {
+        let Ok(count) = reader.read(&mut chunk) else {
+            return Err(Trouble::Failed);
+        };
+        if count == 0 {
+            return Ok(());
+        }
+        into.extend_from_slice(&chunk[..count])?;
+    }
+    Err(Trouble::Long)
+}
+
+// The file's bytes.
+fn read_file<R: Files>(rt: &R, alloc: Global, name: &str) -> Result<Bytes, Trouble> {
     let Ok(mut file) = fs::open(rt, name) else {
         return Err(Trouble::Failed);
     };
     let mut bytes = Vec::new(alloc);
-    let mut chunk = [0u8; 4096];
-    for _ in 0..u64::MAX {
-        let Ok(n) = file.read(&mut chunk) else {
-            return Err(Trouble::Failed);
-        };
-        if n == 0 {
-            break;
-        }
-        bytes.extend_from_slice(&chunk[..n])?;
-        if bytes.len() > LONGEST_FILE {
-            return Err(Trouble::Long);
-        }
-    }
-    Ok(bytes)
+    read_rest(&mut file, &mut bytes)?;
+    Ok(Bytes::from_vec(bytes))
 }
 
 impl<'a, R: Files + Print> Desk for HostDesk<'a, R> {
@@ -64,11 +70,11 @@ impl<'a, R: Files + Print> Desk for HostDesk<'a, R> {
         let failed_name = Bytes::from_slice(self.alloc, name.as_bytes())?;
         match read_file(self.rt, self.alloc, name) {
             Ok(bytes) => {
-                *into = Bytes::from_vec(bytes);
+                *into = bytes;
                 Ok(())
             }
             Err(Trouble::Failed) => {
-                self.faults.note(Errand::Fetch, failed_name);
+                self.faults.note(Operation::Fetch, failed_name);
                 Err(Trouble::Failed)
             }
             Err(trouble) => Err(trouble),
@@ -80,7 +86,7 @@ impl<'a, R: Files + Print> Desk for HostDesk<'a, R> {
         match fs::write(self.rt, name, bytes) {
             Ok(()) => Ok(()),
             Err(_) => {
-                self.faults.note(Errand::Keep, failed_name);
+                self.faults.note(Operation::Keep, failed_name);
                 Err(Trouble::Failed)
             }
         }
@@ -94,7 +100,7 @@ impl<'a, R: Files + Print> Desk for HostDesk<'a, R> {
             Ok(()) => Ok(()),
             Err(_) => {
                 let no_name = Bytes::new(self.alloc);
-                self.faults.note(Errand::Print, no_name);
+                self.faults.note(Operation::Print, no_name);
                 Err(Trouble::Failed)
             }
         }

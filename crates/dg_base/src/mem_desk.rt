@@ -1,12 +1,14 @@
 // A desk in memory, whose calls fail by a list.
-ghost use Rattle.std.specs.Prelude.{◌≡◌, ◌∷◌, ◌++◌, [], ◌≢◌, IfOk, OnOk, OnErr, MatchOption, position, Some, None, Ok, Err};
-ghost use Rattle.dg_base.specs.Outside.{Fetches, Keeps, file_in};
-ghost use Rattle.dg_base.specs.declared.outside.Trouble.TheVariants.{Failed};
-ghost use Rattle.dg_base.specs.MemState.{nothing_yet, is_named, KeepsAllButFiles};
+ghost use Rattle.std.specs.Prelude.{◌≡◌, ◌∷◌, ◌++◌, [], ◌≢◌, IfOk, OnOk, OnErr, MatchOption, Some, None, Ok, Err, ◌||◌, ◌&&◌, not, nat_eq, length};
+ghost use Rattle.std.specs.Option.{is_none};
+ghost use Rattle.dg_base.specs.Outside.{Fetches, HasCause, Keeps, Prints, contents, file_in};
+ghost use Rattle.dg_base.specs.declared.outside.Trouble.TheVariants.{Failed, Long};
+ghost use Rattle.dg_base.specs.declared.outside.Operation.TheVariants.{Fetch, Keep, Print};
+ghost use Rattle.dg_base.specs.MemState.{FailsWhere, KeepsAllButFiles, after, counted, next_fails, nothing_yet, printed_part};
 
 use crate::faults::FaultLog;
-use crate::{Bytes, Desk, Errand, FileEntry, LONGEST_FILE, List, OutOfMemory, Trouble};
-use std::alloc::{AllocError, Global};
+use crate::{Bytes, Desk, HonestDesk, List, Operation, OutOfMemory, Trouble};
+use std::alloc::Global;
 use std::marker::Model;
 
 /// A desk in memory, for tests. The calls of `Desk` count from 1, and those whose number was given
@@ -14,8 +16,7 @@ use std::marker::Model;
 #[derive(Debug, Drop)]
 pub struct MemDesk {
     alloc: Global,
-    files: List<FileEntry>,
-    printed: Vec<u8>,
+    desk: HonestDesk,
     faults: FaultLog,
     failing: List<u32>,
     calls: u32,
@@ -26,7 +27,7 @@ impl Model for MemDesk {
 
     ghost Value = { MemState };
 
-    ghost view = { λ d. record { files = d.files; printed = d.printed.items; faults = d.faults; failing = d.failing; calls = d.calls } };
+    ghost view = { λ d. record { files = d.desk.files; printed = d.desk.printed; faults = d.faults; failing = d.failing; calls = d.calls } };
 }
 
 impl MemDesk {
@@ -36,8 +37,7 @@ impl MemDesk {
     {
         Ok(MemDesk {
             alloc,
-            files: List::new(alloc),
-            printed: Vec::new(alloc),
+            desk: HonestDesk::new(alloc)?,
             faults: FaultLog::new(alloc),
             failing: List::new(alloc),
             calls: 0,
@@ -50,10 +50,7 @@ impl MemDesk {
         ensures others { OnOk result (KeepsAllButFiles self.old self.new) }
         ensures err { OnErr result (self.new ≡ self.old) }
     {
-        let name = Bytes::from_slice(self.alloc, name.as_bytes())?;
-        let bytes = Bytes::from_slice(self.alloc, bytes)?;
-        store(&mut self.files, name, bytes)?;
-        Ok(())
+        self.desk.put(name, bytes)
     }
 
     /// Makes the call of this number fail; the calls of `Desk` count from 1.
@@ -66,61 +63,27 @@ impl MemDesk {
     }
 
     /// The bytes of the file of this name. None exactly where there is no such file.
-    #[tactic(auto, using(crate::proofs::Files::found_there, crate::proofs::Files::found_nowhere))]
     pub fn file(&self, name: &str) -> Option<&[u8]>
         ensures { MatchOption result (file_in self.now.files name.now ≡ None) (λ bytes. file_in self.now.files name.now ≡ Some bytes.now) }
     {
-        let at = find(self.files.as_slice(), name.as_bytes())?;
-        Some(self.files.as_slice()[at].bytes.as_slice())
+        self.desk.file(name)
     }
 
     /// What was printed so far.
     pub fn printed(&self) -> &[u8]
         ensures { result.now ≡ self.now.printed }
     {
-        self.printed.as_slice()
+        self.desk.printed()
     }
 
-    // Counts a call, and answers whether it is to fail.
+    // Counts a call, up to the type's end, and answers whether it is to fail.
     fn begins_to_fail(&mut self) -> bool
-        ensures { self.new ≡ record self.old { calls = self.new.calls } }
+        ensures count { self.new ≡ counted self.old }
+        ensures fails { result ≡ next_fails self.old }
     {
         self.calls = self.calls.saturating_add(1);
         self.failing.as_slice().contains(&self.calls)
     }
-}
-
-// The place of the first file of this name.
-fn find(files: &[FileEntry], name: &[u8]) -> Option<usize>
-    ensures { result ≡ position (is_named name.now) files.now }
-{
-    files.iter().position(|file| file.name.as_slice() == name)
-}
-
-// Makes these the bytes of the file of this name.
-fn store(files: &mut List<FileEntry>, name: Bytes, bytes: Bytes) -> Result<(), AllocError>
-    ensures ok { OnOk result (Keeps name bytes (Ok tt) files.old files.new) }
-    ensures err { OnErr result (files.new ≡ files.old) }
-{
-    match find(files.as_slice(), name.as_slice()) {
-        Some(at) => {
-            files.set(at, FileEntry { name, bytes });
-            Ok(())
-        }
-        None => files.push(FileEntry { name, bytes }),
-    }
-}
-
-// Copies a file of at most `LONGEST_FILE` bytes.
-fn copy(alloc: Global, bytes: &[u8], into: &mut Bytes) -> Result<(), Trouble>
-    ensures fetched { Fetches bytes.now into.new result }
-    ensures not_failed { result ≢ Err Failed }
-{
-    if bytes.len() > LONGEST_FILE {
-        return Err(Trouble::Long);
-    }
-    *into = Bytes::from_slice(alloc, bytes)?;
-    Ok(())
 }
 
 impl Desk for MemDesk {
@@ -131,47 +94,59 @@ impl Desk for MemDesk {
     ghost faults = { λ d. d.faults };
 
     // An unknown name fails, too.
-    #[tactic(auto, using(crate::proofs::Files::found_there))]
-    fn fetch(&mut self, name: &str, into: &mut Bytes) -> Result<(), Trouble> {
+    fn fetch(&mut self, name: &str, into: &mut Bytes) -> Result<(), Trouble>
+        requires { into.old ≡ [] }
+        ensures fetched { Fetches (contents self.old.files name.now) into.new result }
+        ensures files { self.new.files ≡ self.old.files }
+        ensures printed { self.new.printed ≡ self.old.printed }
+        ensures cause { HasCause Fetch name.now self.old.faults self.new.faults result }
+        ensures fails { FailsWhere (next_fails self.old || is_none (file_in self.old.files name.now)) result }
+        ensures after { self.new ≡ after Fetch name.now self.old result }
+    {
         let fails = self.begins_to_fail();
         let failed_name = Bytes::from_slice(self.alloc, name.as_bytes())?;
-        let found = find(self.files.as_slice(), name.as_bytes());
-        match found {
-            Some(at) if !fails => copy(
-                self.alloc,
-                self.files.as_slice()[at].bytes.as_slice(),
-                into,
-            ),
-            _ => {
-                self.faults.note(Errand::Fetch, failed_name);
-                Err(Trouble::Failed)
-            }
-        }
-    }
-
-    // A call that fails changes nothing.
-    fn keep(&mut self, name: &str, bytes: &[u8]) -> Result<(), Trouble> {
-        let fails = self.begins_to_fail();
-        let file_name = Bytes::from_slice(self.alloc, name.as_bytes())?;
-        if fails {
-            self.faults.note(Errand::Keep, file_name);
+        if fails || self.desk.file(name).is_none() {
+            self.faults.note(Operation::Fetch, failed_name);
             return Err(Trouble::Failed);
         }
-        let bytes = Bytes::from_slice(self.alloc, bytes)?;
-        store(&mut self.files, file_name, bytes)?;
-        Ok(())
+        self.desk.fetch(name, into)
     }
 
-    // A call that fails appends the first half of the bytes, rounded down.
-    fn print(&mut self, bytes: &[u8]) -> Result<(), Trouble> {
-        let fails = self.begins_to_fail();
-        if fails && !bytes.is_empty() {
-            self.printed.extend_from_slice(&bytes[..bytes.len() / 2])?;
+    // A call that is refused changes no file.
+    fn keep(&mut self, name: &str, bytes: &[u8]) -> Result<(), Trouble>
+        ensures kept { Keeps name.now bytes.now result self.old.files self.new.files }
+        ensures printed { self.new.printed ≡ self.old.printed }
+        ensures never_long { result ≢ Err Long }
+        ensures cause { HasCause Keep name.now self.old.faults self.new.faults result }
+        ensures err { OnErr result (self.new.files ≡ self.old.files) }
+        ensures fails { FailsWhere (next_fails self.old) result }
+        ensures after { self.new ≡ record (after Keep name.now self.old result) { files = self.new.files } }
+    {
+        if self.begins_to_fail() {
+            let failed_name = Bytes::from_slice(self.alloc, name.as_bytes())?;
+            self.faults.note(Operation::Keep, failed_name);
+            return Err(Trouble::Failed);
+        }
+        self.desk.keep(name, bytes)
+    }
+
+    // A call that fails appends the first half of the bytes, rounded down. A print of no bytes
+    // never fails.
+    fn print(&mut self, bytes: &[u8]) -> Result<(), Trouble>
+        ensures printed { Prints bytes.now result self.old.printed self.new.printed }
+        ensures files { self.new.files ≡ self.old.files }
+        ensures never_long { result ≢ Err Long }
+        ensures not_for_nothing { result ≡ Err Failed → bytes.now ≢ [] }
+        ensures cause { HasCause Print [] self.old.faults self.new.faults result }
+        ensures fails { FailsWhere (next_fails self.old && not (nat_eq (length bytes.now) 0)) result }
+        ensures after { self.new ≡ record (after Print [] self.old result) { printed = self.old.printed ++ printed_part bytes.now result } }
+    {
+        if self.begins_to_fail() && !bytes.is_empty() {
+            self.desk.print(&bytes[..bytes.len() / 2])?;
             let no_name = Bytes::new(self.alloc);
-            self.faults.note(Errand::Print, no_name);
+            self.faults.note(Operation::Print, no_name);
             return Err(Trouble::Failed);
         }
-        self.printed.extend_from_slice(bytes)?;
-        Ok(())
+        self.desk.print(bytes)
     }
 }

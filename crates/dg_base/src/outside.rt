@@ -1,7 +1,7 @@
 // The desk: files and standard output, by what was asked of them.
 ghost use Rattle.std.specs.Prelude.{◌≡◌, ◌≢◌, [], ℕ, List, Option, IsErrOf};
 ghost use Rattle.dg_base.specs.declared.outside.Trouble.TheVariants.{Failed, Long, OutOfMemory};
-ghost use Rattle.dg_base.specs.declared.outside.Errand.TheVariants.{Fetch, Keep, Print};
+ghost use Rattle.dg_base.specs.declared.outside.Operation.TheVariants.{Fetch, Keep, Print};
 ghost use Rattle.dg_base.specs.declared.outside.FileEntry.{FileEntry};
 ghost use Rattle.dg_base.specs.Outside.{Faults, HasCause, Told, Changes, Fetches, Keeps, Prints, contents};
 
@@ -48,7 +48,7 @@ impl From<crate::OutOfMemory> for Trouble {
 
 /// What a desk was asked for when it last failed.
 #[derive(Debug, Clone, Copy, PartialEq, Eq, Drop)]
-pub enum Errand {
+pub enum Operation {
     /// Nothing has failed yet.
     Nothing,
     /// A file was to be read.
@@ -75,7 +75,7 @@ pub trait Desk {
     /// What was printed so far. None where it isn't told.
     ghost printed: { Self → Option (List ℕ) };
 
-    /// How often the outside failed, with the errand and the name of the last fault.
+    /// How often the outside failed, with the operation and the name of the last fault.
     ghost faults: { Self → Faults };
 
     /// Reads the file to its end into `into`. A file of more than `LONGEST_FILE` bytes is Long. After

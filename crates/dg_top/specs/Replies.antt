@@ -2,7 +2,7 @@
 use Rattle.std.specs.Prelude.{◌≡◌, ℕ, ◌<◌, ◌≤◌, List, [], Option, Some, None, Contains, length}
 use Rattle.dg_base.specs.declared.outside.FileEntry.{FileEntry}
 use Rattle.dg_base.specs.declared.outside.TheConstants.{LONGEST_FILE}
-use Rattle.dg_base.specs.declared.outside.Errand.TheVariants.{Fetch}
+use Rattle.dg_base.specs.declared.outside.Operation.TheVariants.{Fetch}
 use Rattle.dg_base.specs.Outside.{Faults, IsFault, Told, contents}
 use Rattle.dg_top.specs.declared.reply.Reply.{Reply}
 use Rattle.dg_top.specs.declared.settings.Settings.{Settings}

@@ -1,6 +1,6 @@
 // From the words of the command line and the desk to the status: the top call.
 ghost use Rattle.std.specs.Prelude.{◌≡◌, ◌≢◌, ◌⊎◌, ◌≤◌, ◌<◌, ◌∷◌, [], Some, None, IfOk, IfSome, Ok, Err, option_map};
-ghost use Rattle.dg_base.specs.declared.outside.Errand.TheVariants.{Fetch, Print};
+ghost use Rattle.dg_base.specs.declared.outside.Operation.TheVariants.{Fetch, Print};
 ghost use Rattle.dg_base.specs.declared.outside.Trouble.TheVariants.{Failed, Long};
 ghost use Rattle.dg_base.specs.Outside.{IsFault, Told, Unchanged};
 ghost use Rattle.dg_top.specs.declared.settings.Job.TheVariants.{Verify, Replay};

@@ -4,7 +4,7 @@ use Rattle.dg_base.specs.declared.outside.FileEntry.{FileEntry}
 use Rattle.dg_base.specs.Outside.{Keeps}
 use Rattle.dg_base.specs.MemState.{is_named}
 use Rattle.dg_base.proofs.Files.{replaced, added}
-use Rattle.dg_base.proofs.mem_desk.store.Goals as goal
+use Rattle.dg_base.proofs.honest_desk.store.Goals as goal
 
 pub returns-in-Some-clause-ok : goal.returns-in-Some-clause-ok
 returns-in-Some-clause-ok c =
