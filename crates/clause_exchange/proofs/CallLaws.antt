@@ -2,10 +2,10 @@
 use Rattle.std.proofs.Common.{◌≡◌, ℕ, ◌+◌, ◌-◌, ◌≤◌, false, List, [], ◌∷◌, ◌++◌, length, refl, ap, sym, ◌∙◌, arith}
 use Rattle.std.specs.Prelude.{nat_lt}
 use Rattle.std.proofs.lemmas.Bool.{le-ltb, lt-ltb}
-use Rattle.std.proofs.lemmas.List.{length-append, append_assoc}
-use Rattle.clause_exchange.specs.declared.rule.Heard.{Heard}
+use Rattle.std.proofs.lemmas.List.{length-append, append_assoc, append-nil}
+use Rattle.clause_exchange.specs.declared.rule.Received.{Received}
 use Rattle.clause_exchange.specs.Spelling.{spelled, spelled_entry, entry_size, whole_within}
-use Rattle.clause_exchange.specs.ExchangeLaws.{ReadingGrows}
+use Rattle.clause_exchange.specs.ExchangeLaws.{ReadingGrows, ReadingIsAll}
 use Rattle.clause_exchange.proofs.Listed.{spelled_append}
 use Rattle.clause_exchange.proofs.Words.{lits_size}
 
@@ -13,7 +13,7 @@ not_less : (m n : ℕ) → n ≤ m → nat_lt m n ≡ false
 not_less m n le = le-ltb m n le
 
 -- what is whole within the words of the first entries are these entries
-pub whole_first : (before later : List Heard) → whole_within (length (spelled before)) (before ++ later) ≡ before
+pub whole_first : (before later : List Received) → whole_within (length (spelled before)) (before ++ later) ≡ before
 whole_first [] [] = refl
 whole_first [] (h ∷ hs) = rw (lt-ltb 0 (length (spelled_entry h)) (omega arith)) refl
 whole_first (b ∷ bs) later =
@@ -34,3 +34,9 @@ reading_grows_law r h at =
     ap (λ m. whole_within m r.known) whole
     ∙ (ap (λ l. whole_within (length (spelled (at.before ++ h ∷ []))) l) all ∙ whole_first (at.before ++ h ∷ []) at.later)
     ∙ ap (λ l. l ++ h ∷ []) (sym old)
+
+pub reading_is_all_law : ReadingIsAll
+reading_is_all_law r all =
+    ap (λ m. whole_within m r.known) all
+    ∙ ap (λ l. whole_within (length (spelled r.known)) l) (sym (append-nil r.known))
+    ∙ whole_first r.known []

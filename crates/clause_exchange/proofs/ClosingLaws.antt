@@ -14,10 +14,10 @@ use Rattle.search_core.specs.Core.{Worker, worker, idle}
 use Rattle.search_core.specs.CoreLaws.{IsRight, clauses_below}
 use Rattle.search_core.proofs.Laws.{sound_after_events, below_only, below_has}
 use Rattle.search_core.proofs.Places.{nothing_there, place_of}
-use Rattle.clause_exchange.specs.declared.rule.Heard.{Heard}
+use Rattle.clause_exchange.specs.declared.rule.Received.{Received}
 use Rattle.clause_exchange.specs.declared.rule.Part.{Part}
 use Rattle.clause_exchange.specs.declared.rule.View.{View}
-use Rattle.clause_exchange.specs.Spelling.{spelled_entry, whole_within, all_heard}
+use Rattle.clause_exchange.specs.Spelling.{spelled_entry, whole_within, all_received}
 use Rattle.clause_exchange.specs.Rule.{worker_of}
 use Rattle.clause_exchange.specs.Closing.{HasAll, IsShown, IsClosed, HasEntry, HasEmptyClause, TicketsAreIn, EntriesFollow, ReadsWereShared}
 use Rattle.clause_exchange.proofs.Listed.{get_map, prefix_trans}
@@ -73,7 +73,7 @@ module _ (v : View) (next : ℕ) (verdict : Option Verdict) (c : IsShown v next 
       (m.0, r.1, r.2, m.2, r.4)
 
 -- what is whole within some words begins the list
-within_begins : (m : ℕ) (hs : List Heard) → IsPrefix (whole_within m hs) hs
+within_begins : (m : ℕ) (hs : List Received) → IsPrefix (whole_within m hs) hs
 within_begins m [] = ([], refl)
 within_begins m (h ∷ hs) = by_test (nat_lt m (length (spelled_entry h))) refl (within_begins (m - length (spelled_entry h)) hs)
   where
@@ -82,4 +82,4 @@ within_begins m (h ∷ hs) = by_test (nat_lt m (length (spelled_entry h))) refl 
     by_test false q later = rw q (later.0, ap (λ l. h ∷ l) later.1)
 
 pub reads_were_shared : (v : View) (next : ℕ) (verdict : Option Verdict) → IsClosed v next verdict → ReadsWereShared v
-reads_were_shared v next verdict c a b r ca cb at = prefix_trans (whole_within r.loaded r.known) r.known (all_heard b.shared) (within_begins r.loaded r.known) ((c.heard a b r ca cb at).known)
+reads_were_shared v next verdict c a b r ca cb at = prefix_trans (whole_within r.loaded r.known) r.known (all_received b.shared) (within_begins r.loaded r.known) ((c.received a b r ca cb at).known)

@@ -5,10 +5,10 @@ use Rattle.std.proofs.lemmas.List.{length-append}
 use Rattle.search_core.proofs.Places.{some_same, nothing_there}
 use Rattle.dg_base.specs.declared.Lit.{Lit}
 use Rattle.cnf_problem.proofs.Members.{contains_head, contains_tail}
-use Rattle.clause_exchange.specs.declared.rule.Heard.{Heard}
+use Rattle.clause_exchange.specs.declared.rule.Received.{Received}
 use Rattle.clause_exchange.specs.declared.rule.RowView.{RowView}
 use Rattle.clause_exchange.specs.Spelling.{spelled, spelled_entry, spelled_lits}
-use Rattle.clause_exchange.specs.Plays.{IsAt}
+use Rattle.clause_exchange.specs.Steps.{IsAt}
 use Rattle.clause_exchange.proofs.Listed.{spelled_append}
 
 get_behind : {X : Type 0} (xs ys : List X) (i : ℕ) → slice_get (xs ++ ys) (length xs + i) ≡ slice_get ys i
@@ -27,7 +27,7 @@ contains_middle : {X : Type 0} (xs ys : List X) (x : X) → Contains (xs ++ x �
 contains_middle [] ys x = contains_head x ys
 contains_middle (z ∷ zs) ys x = contains_tail z x (zs ++ x ∷ ys) (contains_middle zs ys x)
 
-module _ (r : RowView) (h : Heard) (i : ℕ) (at : IsAt r h i) where
+module _ (r : RowView) (h : Received) (i : ℕ) (at : IsAt r h i) where
   words : spelled r.known ≡ spelled at.before ++ (spelled_entry h ++ spelled at.later)
   words = ap spelled at.all ∙ spelled_append at.before (h ∷ at.later)
 

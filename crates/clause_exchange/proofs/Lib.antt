@@ -14,5 +14,3 @@ pub mod CallLaws
 pub mod ClosingLaws
 pub mod Tying
 pub mod Seating
-pub mod NewSeats
-pub mod Readiness

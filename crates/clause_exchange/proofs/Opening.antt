@@ -16,7 +16,7 @@ use Rattle.search_core.specs.Core
 use Rattle.clause_exchange.specs.declared.rule.RowView.{RowView}
 use Rattle.clause_exchange.specs.declared.rule.Part.{Part}
 use Rattle.clause_exchange.specs.declared.rule.View.{View}
-use Rattle.clause_exchange.specs.Rule.{blank_row, blank_part, blank_parts, worker_of, core_of, verdict_of, IsRow, IsHeard, IsKept, Has, AreShared, HoldsFor}
+use Rattle.clause_exchange.specs.Rule.{blank_row, blank_part, blank_parts, worker_of, core_of, verdict_of, IsRow, IsReceived, IsKept, Has, AreShared, HoldsFor}
 use Rattle.clause_exchange.specs.Closing.{IsClosed}
 use Rattle.clause_exchange.proofs.Keeping.{worker_there}
 use Rattle.clause_exchange.proofs.Stepping.{next_small}
@@ -102,9 +102,9 @@ module _ (p : Problem) (n share_words : ℕ) (v : View) (words : List ℕ)
       short = omega arith;
       wide = length-replicate n blank_row;
     });
-    heard = λ k j part other r at there row.
+    received = λ k j part other r at there row.
         let e : r ≡ blank_row = there_same n j blank_row r (subst (λ (x : Part). slice_get x.rows j ≡ Some r) (blank_there n 0 n k part at) row) in
-        subst (λ z. IsHeard z other) (sym e) (record { known = (_, refl); loaded = omega arith });
+        subst (λ z. IsReceived z other) (sym e) (record { known = (_, refl); loaded = omega arith });
   }
 
   pub holds_start : v.spent ≡ false → (homes : List (mathlib.Core.Option.Option Lemma)) → HoldsFor p n share_words (record { words = words; homes = homes; views = v ∷ [] })
@@ -147,7 +147,7 @@ closed_with p n share_words id v words slots live (s, seen, same_words, homes, v
             let mine = all f.0 (let a = slice_get_within r.parts f.0 f.1 f.2 in let b = r.kept.numbers in let e = t.1 in omega arith) in
             let same : f.1 ≡ mine.0 = some_same f.1 mine.0 (sym f.2 ∙ subst (λ m. slice_get r.parts m ≡ Some mine.0) mine.2 (at mine.0 mine.1)) in
             (mine.0, mine.1, subst (λ (z : Part). Contains z.offers Unsafe) same f.3);
-        heard = λ a b q ca cb row. r.kept.heard a.number b.number a b q (at a ca) (at b cb) row;
+        received = λ a b q ca cb row. r.kept.received a.number b.number a b q (at a ca) (at b cb) row;
       },
       subst (λ ws. slice_index ws 1 < 3) same_words r.kept.verdict.small,
       subst (λ ws. slice_index ws 0 ≤ 16000016) same_words (next_small p n share_words s.words r.parts r.kept),

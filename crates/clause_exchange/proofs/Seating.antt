@@ -17,7 +17,7 @@ use Rattle.clause_exchange.specs.declared.counters.Counters.{Counters}
 use Rattle.clause_exchange.specs.Rule.{blank_row, blank_part, blank_parts, new_view}
 use Rattle.clause_exchange.specs.Splits.{with_parts, below, from_on}
 use Rattle.clause_exchange.specs.Counting.{Owns, AreNew, CountsAs, TakesOver}
-use Rattle.clause_exchange.specs.Seats.{IsTied, IsTiedPart, IsTiedRow, HasNumber, cell}
+use Rattle.clause_exchange.specs.Seats.{IsTied, IsTiedPart, IsTiedRow, IsBlank, HasNumber, cell}
 use Rattle.clause_exchange.proofs.Opening.{there_same, blank_there, blank_length}
 use Rattle.clause_exchange.proofs.Splitting.{from_filter}
 
@@ -60,6 +60,7 @@ tied_new p n share_words c some few narrow new = record {
       written_is = new.written (0 + k);
       fits = omega arith;
       wide = length-replicate n blank_row;
+      blank = λ r at. subst IsBlank (sym (there_same n (0 + k) blank_row r at)) (record { known = refl; loaded = refl });
       rows = λ j r at. blank_row_tied (cell (0 + k) j) r (there_same n j blank_row r at);
     }
 
@@ -84,6 +85,7 @@ module _ (v : View) (number : ℕ) (c : Counters) (tied : IsTied v number c) whe
         written_is = ap (λ ws. slice_index ws x.number) writes ∙ h.written_is;
         fits = h.fits;
         wide = h.wide;
+        blank = h.blank;
         rows = λ j r at. subst (λ (ls : List ℕ). IsTiedRow v.share_words (slice_index ls (cell x.number j)) (slice_index d.loaded (cell x.number j)) r) (sym looks)
             (subst (λ (ls : List ℕ). IsTiedRow v.share_words (slice_index c.looked (cell x.number j)) (slice_index ls (cell x.number j)) r) (sym loads) (h.rows j r at));
       }
@@ -141,6 +143,7 @@ counted_as n share_words c d part few counts own h = record {
   written_is = counts.written ∙ h.written_is;
   fits = h.fits;
   wide = h.wide;
+  blank = h.blank;
   rows = λ j r at.
       let inside = slice_get_within part.rows j r at in
       let wide = h.wide in

@@ -18,7 +18,7 @@ use Rattle.search_core.proofs.Places.{some_same}
 use Rattle.clause_exchange.specs.declared.rule.Part.{Part}
 use Rattle.clause_exchange.specs.declared.rule.View.{View}
 use Rattle.clause_exchange.specs.Rule.{worker_of, core_of, IsKept, HoldsFor}
-use Rattle.clause_exchange.specs.Plays.{IsOne, with_part, Means, Cuts, Agrees}
+use Rattle.clause_exchange.specs.Steps.{IsOne, with_part, Announces, Cuts, Agrees}
 use Rattle.clause_exchange.proofs.Listed.{get_in_map}
 use Rattle.clause_exchange.proofs.Sharing.{shared_after, shared_along, has_one}
 
@@ -93,12 +93,12 @@ view_holds p n share_words s words homes id v w r there live problem workers sha
 }
 
 -- the step that keeps the lemma
-pub tells : (p : Problem) (n share_words slots id : ℕ) (me : Me Lemma View) (lemma : Lemma) → me.0.spent ≡ false → Allows (HoldsFor p n share_words) slots id me 1 (λ n. either (eqb n 3) 3 n) (Means (step slots 1 3 3 (some lemma)) me)
+pub tells : (p : Problem) (n share_words slots id : ℕ) (me : Me Lemma View) (lemma : Lemma) → me.0.spent ≡ false → Allows (HoldsFor p n share_words) slots id me 1 (λ n. either (eqb n 3) 3 n) (Announces (step slots 1 3 3 (some lemma)) me)
 tells p n share_words slots id me lemma live s h homes there small = (
-  record { problem = me.0.problem; workers = me.0.workers; share_words = me.0.share_words; parts = me.0.parts; means = Some lemma; cut = me.0.cut; spent = me.0.spent },
+  record { problem = me.0.problem; workers = me.0.workers; share_words = me.0.share_words; parts = me.0.parts; announced = Some lemma; cut = me.0.cut; spent = me.0.spent },
   keeps,
   tt,
-  view_holds p n share_words s (set s.words 1 (either (eqb (slice_index s.words 1) 3) 3 (slice_index s.words 1))) s.homes id me.0 (record { problem = me.0.problem; workers = me.0.workers; share_words = me.0.share_words; parts = me.0.parts; means = Some lemma; cut = me.0.cut; spent = me.0.spent }) h there live refl refl refl live refl unchanged,
+  view_holds p n share_words s (set s.words 1 (either (eqb (slice_index s.words 1) 3) 3 (slice_index s.words 1))) s.homes id me.0 (record { problem = me.0.problem; workers = me.0.workers; share_words = me.0.share_words; parts = me.0.parts; announced = Some lemma; cut = me.0.cut; spent = me.0.spent }) h there live refl refl refl live refl unchanged,
   (lemma, refl, refl, refl),
 )
   where
@@ -108,10 +108,10 @@ tells p n share_words slots id me lemma live s h homes there small = (
 -- the step that keeps where the seat is about to be split
 pub cuts : (p : Problem) (n share_words slots id : ℕ) (me : Me Lemma View) (at : ℕ) → me.0.spent ≡ false → Allows (HoldsFor p n share_words) slots id me at (λ n. n) (Cuts (step slots at 0 0 none) me)
 cuts p n share_words slots id me at live s h homes there small = (
-  record { problem = me.0.problem; workers = me.0.workers; share_words = me.0.share_words; parts = me.0.parts; means = me.0.means; cut = at; spent = me.0.spent },
+  record { problem = me.0.problem; workers = me.0.workers; share_words = me.0.share_words; parts = me.0.parts; announced = me.0.announced; cut = at; spent = me.0.spent },
   keeps,
   tt,
-  view_holds p n share_words s (set s.words at (slice_index s.words at)) s.homes id me.0 (record { problem = me.0.problem; workers = me.0.workers; share_words = me.0.share_words; parts = me.0.parts; means = me.0.means; cut = at; spent = me.0.spent }) h there live refl refl refl live refl (λ below. set-get_or s.words at 0),
+  view_holds p n share_words s (set s.words at (slice_index s.words at)) s.homes id me.0 (record { problem = me.0.problem; workers = me.0.workers; share_words = me.0.share_words; parts = me.0.parts; announced = me.0.announced; cut = at; spent = me.0.spent }) h there live refl refl refl live refl (λ below. set-get_or s.words at 0),
   (refl, refl),
 )
 

@@ -16,15 +16,15 @@ use Rattle.search_core.specs.Core.{Worker, Event, Share, IsReached, MayHappen, a
 use Rattle.search_core.specs.Core
 use Rattle.clause_exchange.specs.declared.rule.Part.{Part}
 use Rattle.clause_exchange.specs.declared.rule.View.{View}
-use Rattle.clause_exchange.specs.Spelling.{heard_of, all_heard, spelled, spelled_entry, IsPlain}
+use Rattle.clause_exchange.specs.Spelling.{received_of, all_received, spelled, spelled_entry, IsPlain}
 use Rattle.clause_exchange.specs.Rule.{verdict_of, worker_of, core_of, row_words, row_start, IsRow, IsKept, HoldsFor}
-use Rattle.clause_exchange.specs.Plays.{IsOne, with_part, with_word, with_shared, Stores, Shares, MayShare}
+use Rattle.clause_exchange.specs.Steps.{IsOne, with_part, with_word, with_shared, Stores, Shares, MayShare}
 use Rattle.clause_exchange.proofs.Listed.{prefix_refl, spelled_append}
 use Rattle.clause_exchange.proofs.Keeping.{verdict_stays, same_row, row_inside, row_stays, kept_after, core_stays, worker_there}
 use Rattle.clause_exchange.proofs.Stepping.{step_tells, reached_after}
 
 more_words : (part : Part) (x : ℕ) → row_words (with_word part x) ≡ row_words part ++ x ∷ []
-more_words part x = sym (append_assoc (spelled (all_heard part.shared)) part.stored (x ∷ []))
+more_words part x = sym (append_assoc (spelled (all_received part.shared)) part.stored (x ∷ []))
 
 module _ (p : Problem) (v : View) (part : Part) (x : ℕ) (words : List ℕ) (parts : List Part)
     (room : length (row_words part) < v.share_words) (at : slice_get parts part.number ≡ Some part) (kept : IsKept p v.workers v.share_words words parts) where
@@ -80,8 +80,8 @@ module _ (p : Problem) (v : View) (part : Part) (x : ℕ) (words : List ℕ) (pa
       (λ j other apart there.
       let inside : j < v.workers = (let a = slice_get_within parts j other there in let b = kept.numbers in omega arith) in
       row_stays v.workers v.share_words words end x j other (λ e. omega arith) (λ m lt e. apart (sym (same_row v.workers v.share_words part.number j (length (row_words part)) m room lt e))) (kept.rows j other there))
-      (prefix_refl (all_heard part.shared))
-      (λ j other r there row. kept.heard part.number j part other r at there row)
+      (prefix_refl (all_received part.shared))
+      (λ j other r there row. kept.received part.number j part other r at there row)
 
 -- the store behind the own row is allowed
 pub stores : (p : Problem) (n share_words slots id : ℕ) (me : Me Lemma View) (part : Part) (x : ℕ) → IsOne me.0 part → length (row_words part) < me.0.share_words
@@ -95,15 +95,15 @@ stores p n share_words slots id me part x one room s h homes there small =
     then w = Stores (step slots (row_start me.0.workers me.0.share_words part.number + length (row_words part)) x 0 none) me x (w, me.1)
 
 -- the words that were stored spell one more entry
-more_shared : (part : Part) (e : Entry) → all_heard (part.shared ++ e ∷ []) ≡ all_heard part.shared ++ heard_of e ∷ []
-more_shared part e = map-append heard_of part.shared (e ∷ [])
+more_shared : (part : Part) (e : Entry) → all_received (part.shared ++ e ∷ []) ≡ all_received part.shared ++ received_of e ∷ []
+more_shared part e = map-append received_of part.shared (e ∷ [])
 
-spelled_more : (part : Part) (e : Entry) → part.stored ≡ spelled_entry (heard_of e) → spelled (all_heard (part.shared ++ e ∷ [])) ≡ row_words part
+spelled_more : (part : Part) (e : Entry) → part.stored ≡ spelled_entry (received_of e) → spelled (all_received (part.shared ++ e ∷ [])) ≡ row_words part
 spelled_more part e is =
     ap spelled (more_shared part e)
-    ∙ spelled_append (all_heard part.shared) (heard_of e ∷ [])
-    ∙ ap (λ l. spelled (all_heard part.shared) ++ l) (append-nil (spelled_entry (heard_of e)))
-    ∙ ap (λ l. spelled (all_heard part.shared) ++ l) (sym is)
+    ∙ spelled_append (all_received part.shared) (received_of e ∷ [])
+    ∙ ap (λ l. spelled (all_received part.shared) ++ l) (append-nil (spelled_entry (received_of e)))
+    ∙ ap (λ l. spelled (all_received part.shared) ++ l) (sym is)
 
 same_ticket : (t u l m : ℕ) → l ≤ 32 → m ≤ 32 → 64 * t + l ≡ 64 * u + m → t ≡ u
 same_ticket t u l m a b e = omega arith
@@ -135,12 +135,12 @@ module _ (p : Problem) (v : View) (part : Part) (e : Entry) (words : List ℕ) (
   own_shared =
       let old = kept.rows part.number part at in
       let spells = spelled_more part e may.spelled in
-      let row_same : row_words (with_shared part e) ≡ row_words part = append-nil (spelled (all_heard (part.shared ++ e ∷ []))) ∙ spells in
+      let row_same : row_words (with_shared part e) ≡ row_words part = append-nil (spelled (all_received (part.shared ++ e ∷ []))) ∙ spells in
       record {
         count = get_or-set_same words (2 + part.number) total 0 (let a = within in let b = kept.size in omega arith) ∙ sym (ap length spells);
         fits = (let a = ap length row_same in let b = old.fits in omega arith);
         begins = λ m lt. rw row_same (get_or-set_other words (2 + part.number) (row_start v.workers v.share_words part.number + m) total 0 (λ q. let a = within in omega arith) ∙ old.begins m (let a = ap length row_same in omega arith));
-        plain = λ h c. elim (Contains-push_cases (all_heard part.shared) (heard_of e) h (subst (λ l. Contains l h) (more_shared part e) c)) [
+        plain = λ h c. elim (Contains-push_cases (all_received part.shared) (received_of e) h (subst (λ l. Contains l h) (more_shared part e) c)) [
           | inl m ↦ old.plain h m
           | inr q ↦ subst (λ z. IsPlain z) q may.plain
         ];
@@ -156,11 +156,11 @@ module _ (p : Problem) (v : View) (part : Part) (e : Entry) (words : List ℕ) (
       (subst (λ t. IsReached p v.workers t) (sym core_shared) (reached_after p v.workers (core_of words parts) (Share part.number e) kept.reached may_share))
       own_shared
       (λ j other apart there. row_stays v.workers v.share_words words (2 + part.number) total j other (λ q. apart (omega arith)) (λ m lt q. let a = within in omega arith) (kept.rows j other there))
-      (heard_of e ∷ [], sym (more_shared part e))
-      (λ j other r there row. kept.heard part.number j part other r at there row)
+      (received_of e ∷ [], sym (more_shared part e))
+      (λ j other r there row. kept.received part.number j part other r at there row)
 
   -- the stored words tell the entry of the log
-  only_one : (f : Entry) → Contains part.log f → length f.lemma.lits ≤ 32 → part.stored ≡ spelled_entry (heard_of f) → e ≡ f
+  only_one : (f : Entry) → Contains part.log f → length f.lemma.lits ≤ 32 → part.stored ≡ spelled_entry (received_of f) → e ≡ f
   only_one f listed few spells =
       let tickets = (sound_after_events p v.workers (core_of words parts) kept.reached).tickets in
       let heads = ap (λ l. slice_index l 0) (sym may.spelled ∙ spells) in
@@ -189,6 +189,6 @@ shares p n share_words slots id me part e may s h homes there small =
       refl,
       λ q f is listed few spells.
           let same : part ≡ q = (let z = sym may.one.one ∙ is in cc) in
-          let entry : e ≡ f = only_one p me.0 part e s.words parts may at kept f (subst (λ (z : Part). Contains z.log f) (sym same) listed) few (subst (λ (z : Part). z.stored ≡ spelled_entry (heard_of f)) (sym same) spells) in
+          let entry : e ≡ f = only_one p me.0 part e s.words parts may at kept f (subst (λ (z : Part). Contains z.log f) (sym same) listed) few (subst (λ (z : Part). z.stored ≡ spelled_entry (received_of f)) (sym same) spells) in
           ap (λ (z : Part). with_part me.0 (with_shared z e)) same ∙ ap (λ z. with_part me.0 (with_shared q z)) entry,
     )

@@ -8,13 +8,13 @@ use mathlib.Core.List.{IsPrefix}
 use Rattle.cnf_problem.proofs.Members.{contains_head, contains_cases, contains_nothing}
 use Rattle.search_core.specs.declared.Entry.{Entry}
 use Rattle.search_core.specs.declared.Verdict.{Verdict}
-use Rattle.clause_exchange.specs.declared.rule.Heard.{Heard}
+use Rattle.clause_exchange.specs.declared.rule.Received.{Received}
 use Rattle.clause_exchange.specs.declared.rule.RowView.{RowView}
 use Rattle.clause_exchange.specs.declared.rule.Part.{Part}
 use Rattle.clause_exchange.specs.declared.rule.View.{View}
 use Rattle.clause_exchange.specs.declared.counters.Counters.{Counters}
-use Rattle.clause_exchange.specs.Spelling.{spelled_entry, spelled, entry_size, heard_of, all_heard}
-use Rattle.clause_exchange.specs.Plays.{mine, row_of, with_part, with_shared, with_row, with_loaded, looked_at, IsAt}
+use Rattle.clause_exchange.specs.Spelling.{spelled_entry, spelled, entry_size, received_of, all_received}
+use Rattle.clause_exchange.specs.Steps.{mine, row_of, with_part, with_shared, with_row, with_loaded, looked_at, IsAt}
 use Rattle.clause_exchange.specs.Rule.{blank_row, row_words}
 use Rattle.clause_exchange.specs.Seats.{IsTied, IsTiedPart, IsTiedRow, IsWhole, cell, written}
 use Rattle.clause_exchange.specs.Calls.{HasOne}
@@ -22,7 +22,7 @@ use Rattle.clause_exchange.proofs.Listed.{spelled_append, at_write, get_there}
 use Rattle.clause_exchange.proofs.Words.{lits_size}
 
 -- the entry that begins behind so many words
-abbrev pub next_of : ℕ → List Heard → Heard
+abbrev pub next_of : ℕ → List Received → Received
 next_of m [] = record { ticket = 0; lits = [] }
 next_of m (h ∷ hs) = if nat_lt m (length (spelled_entry h)) then h else next_of (m - length (spelled_entry h)) hs
 
@@ -33,10 +33,10 @@ quiet part log seen offers loads = record { number = part.number; log = log; sha
 -- the words of the row after one more entry is shared
 words_after : (part : Part) (e : Entry) → written (with_shared part e) ≡ written part + entry_size (length e.lemma.lits)
 words_after part e =
-    let a = ap (λ hs. length (spelled hs)) (map-append heard_of part.shared (e ∷ [])) in
-    let b = ap length (spelled_append (all_heard part.shared) (heard_of e ∷ [])) in
-    let d = length-append (spelled (all_heard part.shared)) (spelled (heard_of e ∷ [])) in
-    let f = length-append (spelled_entry (heard_of e)) [] in
+    let a = ap (λ hs. length (spelled hs)) (map-append received_of part.shared (e ∷ [])) in
+    let b = ap length (spelled_append (all_received part.shared) (received_of e ∷ [])) in
+    let d = length-append (spelled (all_received part.shared)) (spelled (received_of e ∷ [])) in
+    let f = length-append (spelled_entry (received_of e)) [] in
     let g = lits_size e.lemma.lits in
     omega arith
 
@@ -57,7 +57,7 @@ module _ (v : View) (number : ℕ) (c : Counters) (tied : IsTied v number c) (on
   pub words_tied : slice_index c.written number ≡ length (row_words (mine v))
   words_tied =
       let h = one_tied in
-      ap (λ k. slice_index c.written k) one_number ∙ (h.written_is ∙ (sym (ap length (append-nil (spelled (all_heard (mine v).shared)))) ∙ ap (λ ws. length (spelled (all_heard (mine v).shared) ++ ws)) (sym h.idle)))
+      ap (λ k. slice_index c.written k) one_number ∙ (h.written_is ∙ (sym (ap length (append-nil (spelled (all_received (mine v).shared)))) ∙ ap (λ ws. length (spelled (all_received (mine v).shared) ++ ws)) (sym h.idle)))
 
   -- another part of the same number, with other counts
   pub tied_with : (d : Counters) (q : Part) → q.number ≡ (mine v).number → d.owns ≡ c.owns → IsTiedPart v.workers v.share_words d q → IsTied (with_part v q) number d
@@ -79,7 +79,7 @@ module _ (v : View) (number : ℕ) (c : Counters) (tied : IsTied v number c) (on
   pub tied_same : (log : List Entry) (seen : Option Verdict) (offers : List Verdict) (loads : ℕ) → IsTied (with_part v (quiet (mine v) log seen offers loads)) number c
   tied_same log seen offers loads =
       let h = one_tied in
-      tied_with c (quiet (mine v) log seen offers loads) refl refl (record { within = h.within; own = h.own; idle = h.idle; written_is = h.written_is; fits = h.fits; wide = h.wide; rows = h.rows })
+      tied_with c (quiet (mine v) log seen offers loads) refl refl (record { within = h.within; own = h.own; idle = h.idle; written_is = h.written_is; fits = h.fits; wide = h.wide; blank = h.blank; rows = h.rows })
 
   -- one more entry is shared
   pub tied_shared : (d : Counters) (e : Entry) → d.owns ≡ c.owns → d.looked ≡ c.looked → d.loaded ≡ c.loaded → d.written ≡ set c.written number (slice_index c.written number + entry_size (length e.lemma.lits)) → length c.written ≡ 16
@@ -95,6 +95,7 @@ module _ (v : View) (number : ℕ) (c : Counters) (tied : IsTied v number c) (on
         written_is = (let w = wrote (mine v).number (sym here) in let old = h.written_is in omega arith);
         fits = (let old = h.written_is in let m = ap (λ k. slice_index c.written k) here in omega arith);
         wide = h.wide;
+        blank = h.blank;
         rows = λ j r at. subst (λ (ls : List ℕ). IsTiedRow v.share_words (slice_index ls (cell (mine v).number j)) (slice_index d.loaded (cell (mine v).number j)) r) (sym looked)
             (subst (λ (ls : List ℕ). IsTiedRow v.share_words (slice_index c.looked (cell (mine v).number j)) (slice_index ls (cell (mine v).number j)) r) (sym loaded) (h.rows j r at));
       })
@@ -115,10 +116,10 @@ module _ (v : View) (number : ℕ) (c : Counters) (tied : IsTied v number c) (on
       subst (λ k. IsTiedRow v.share_words (slice_index c.looked k) (slice_index c.loaded k) (row_of (mine v) row)) place (one_tied.rows row (row_of (mine v) row) (row_there row inside))
 
   -- another row, with other counts of it
-  pub tied_row : (d : Counters) (row : ℕ) (q : RowView) → d.owns ≡ c.owns → d.written ≡ c.written → row < v.workers
+  pub tied_row : (d : Counters) (row : ℕ) (q : RowView) → d.owns ≡ c.owns → d.written ≡ c.written → row < v.workers → row ≢ (mine v).number
       → ((i : ℕ) → i ≢ cell number row → (slice_index d.looked i ≡ slice_index c.looked i) × (slice_index d.loaded i ≡ slice_index c.loaded i))
       → IsTiedRow v.share_words (slice_index d.looked (cell number row)) (slice_index d.loaded (cell number row)) q → IsTied (with_part v (with_row (mine v) row q)) number d
-  tied_row d row q owns writes inside others now =
+  tied_row d row q owns writes inside apart others now =
       let h = one_tied in
       let here = one_number in
       tied_with d (with_row (mine v) row q) refl owns (record {
@@ -128,6 +129,7 @@ module _ (v : View) (number : ℕ) (c : Counters) (tied : IsTied v number c) (on
         written_is = ap (λ ws. slice_index ws (mine v).number) writes ∙ h.written_is;
         fits = h.fits;
         wide = length-set (mine v).rows row q ∙ h.wide;
+        blank = λ x at. elim (at_write (mine v).rows row (mine v).number q x at) [ inl e ↦ absurd (apart (sym e.0)) | inr e ↦ h.blank x e.1 ];
         rows = λ j x at. elim (at_write (mine v).rows row j q x at) [
           | inl e ↦
               let place : cell number row ≡ cell (mine v).number j = (let n = here in let m = e.0 in omega arith) in
@@ -141,7 +143,7 @@ module _ (v : View) (number : ℕ) (c : Counters) (tied : IsTied v number c) (on
       })
 
 -- what was read still ends with an entry after a look
-pub whole_looked : (r : RowView) (known : List Heard) (log_then : ℕ) → IsWhole r → IsPrefix r.known known → IsWhole (looked_at r known log_then)
+pub whole_looked : (r : RowView) (known : List Received) (log_then : ℕ) → IsWhole r → IsPrefix r.known known → IsWhole (looked_at r known log_then)
 whole_looked r known log_then w (more, e) = record {
   read = w.read;
   unread = w.unread ++ more;
@@ -150,7 +152,7 @@ whole_looked r known log_then w (more, e) = record {
 }
 
 -- behind the first entries comes the next
-next_behind : (read : List Heard) (h : Heard) (later : List Heard) → next_of (length (spelled read)) (read ++ h ∷ later) ≡ h
+next_behind : (read : List Received) (h : Received) (later : List Received) → next_of (length (spelled read)) (read ++ h ∷ later) ≡ h
 next_behind [] h later = rw (lt-ltb 0 (length (spelled_entry h)) (omega arith)) refl
 next_behind (b ∷ bs) h later =
     let n = length-append (spelled_entry b) (spelled bs) in
@@ -161,14 +163,14 @@ next_behind (b ∷ bs) h later =
 pub next_at : (r : RowView) (loaded looked : ℕ) → IsWhole r → loaded ≡ r.loaded → looked ≡ length (spelled r.known) → loaded ≢ looked → IsAt r (next_of loaded r.known) 0
 next_at r loaded looked w same all apart = by_rest w.unread w.all
   where
-    by_rest : (unread : List Heard) → r.known ≡ w.read ++ unread → IsAt r (next_of loaded r.known) 0
+    by_rest : (unread : List Received) → r.known ≡ w.read ++ unread → IsAt r (next_of loaded r.known) 0
     by_rest [] e = absurd (apart (same ∙ (w.place ∙ (ap (λ l. length (spelled l)) (sym (append-nil w.read)) ∙ (ap (λ l. length (spelled l)) (sym e) ∙ sym all)))))
     by_rest (h ∷ later) e =
         let is : next_of loaded r.known ≡ h = ap (λ m. next_of m r.known) (same ∙ w.place) ∙ (ap (λ l. next_of (length (spelled w.read)) l) e ∙ next_behind w.read h later) in
         subst (λ z. IsAt r z 0) (sym is) (record { before = w.read; later = later; all = e; place = (let p = w.place in omega arith) })
 
 -- what was read ends with the next entry after that is read
-pub whole_read : (r : RowView) (h : Heard) (loaded : ℕ) → IsAt r h 0 → loaded ≡ r.loaded + entry_size (length h.lits) → IsWhole (with_loaded r loaded)
+pub whole_read : (r : RowView) (h : Received) (loaded : ℕ) → IsAt r h 0 → loaded ≡ r.loaded + entry_size (length h.lits) → IsWhole (with_loaded r loaded)
 whole_read r h loaded at is = record {
   read = at.before ++ h ∷ [];
   unread = at.later;

@@ -11,8 +11,8 @@ use Rattle.search_core.specs.CoreLaws.{clauses_below}
 use Rattle.clause_exchange.specs.declared.rule.RowView.{RowView}
 use Rattle.clause_exchange.specs.declared.rule.Part.{Part}
 use Rattle.clause_exchange.specs.declared.rule.View.{View}
-use Rattle.clause_exchange.specs.Spelling.{all_heard, whole_within}
-use Rattle.clause_exchange.specs.Rule.{worker_of, IsHeard}
+use Rattle.clause_exchange.specs.Spelling.{all_received, whole_within}
+use Rattle.clause_exchange.specs.Rule.{worker_of, IsReceived}
 
 -- the view has all numbers
 abbrev pub HasAll : View → Type 0
@@ -61,7 +61,7 @@ EntriesFollow v = (part : Part) (k : ℕ) (e : Entry) → HasEntry v part k e �
 -- what a number read of another's row are the first entries that the other shared
 abbrev pub ReadsWereShared : View → Type 0
 ReadsWereShared v =
-    (a b : Part) (r : RowView) → Contains v.parts a → Contains v.parts b → slice_get a.rows b.number ≡ Some r → IsPrefix (whole_within r.loaded r.known) (all_heard b.shared)
+    (a b : Part) (r : RowView) → Contains v.parts a → Contains v.parts b → slice_get a.rows b.number ≡ Some r → IsPrefix (whole_within r.loaded r.known) (all_received b.shared)
 
 -- what the last words say of a view
 pub record IsClosed (v : View) (next : ℕ) (verdict : Option Verdict) : Type 0 where
@@ -69,4 +69,4 @@ pub record IsClosed (v : View) (next : ℕ) (verdict : Option Verdict) : Type 0 
   pub seen : SeenStands v verdict
   pub offered : OfferStands v verdict
   pub unsafe : HasAll v → verdict ≡ Some Unsafe → WasOffered v Unsafe
-  pub heard : (a b : Part) (r : RowView) → Contains v.parts a → Contains v.parts b → slice_get a.rows b.number ≡ Some r → IsHeard r b
+  pub received : (a b : Part) (r : RowView) → Contains v.parts a → Contains v.parts b → slice_get a.rows b.number ≡ Some r → IsReceived r b

@@ -1,11 +1,10 @@
 pub mod Spelling
 pub mod Sizes
 pub mod Rule
-pub mod Plays
+pub mod Steps
 pub mod Splits
 pub mod Closing
 pub mod Counting
 pub mod Seats
 pub mod Calls
 pub mod ExchangeLaws
-pub mod Ready

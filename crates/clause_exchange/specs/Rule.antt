@@ -10,12 +10,12 @@ use Rattle.search_core.specs.declared.Verdict.{Verdict}
 use Rattle.search_core.specs.declared.Verdict.TheVariants.{Safe, Unsafe}
 use Rattle.search_core.specs.Core.{Worker, IsReached, worker}
 use Rattle.search_core.specs.Core
-use Rattle.clause_exchange.specs.declared.rule.Heard.{Heard}
+use Rattle.clause_exchange.specs.declared.rule.Received.{Received}
 use Rattle.clause_exchange.specs.declared.rule.RowView.{RowView}
 use Rattle.clause_exchange.specs.declared.rule.Part.{Part}
 use Rattle.clause_exchange.specs.declared.rule.View.{View}
 use Rattle.clause_exchange.specs.declared.rule.Setup.{Setup}
-use Rattle.clause_exchange.specs.Spelling.{all_heard, spelled, IsPlain}
+use Rattle.clause_exchange.specs.Spelling.{all_received, spelled, IsPlain}
 
 -- a row of which nothing is known
 abbrev pub blank_row : RowView
@@ -32,7 +32,7 @@ blank_parts n from (suc count) = blank_part n from ∷ blank_parts n (suc from) 
 
 -- the view of all numbers, which have done nothing
 abbrev pub new_view : Problem → ℕ → ℕ → View
-new_view p n share_words = record { problem = p; workers = n; share_words = share_words; parts = blank_parts n 0 n; means = None; cut = 0; spent = false }
+new_view p n share_words = record { problem = p; workers = n; share_words = share_words; parts = blank_parts n 0 n; announced = None; cut = 0; spent = false }
 
 -- the first seat has all numbers
 abbrev pub first_view : Setup → View
@@ -54,7 +54,7 @@ core_of words parts = record { workers = map worker_of parts; next = slice_index
 
 -- the words of a number's row: the entries that it shared, and what it stored behind them
 abbrev pub row_words : Part → List ℕ
-row_words part = spelled (all_heard part.shared) ++ part.stored
+row_words part = spelled (all_received part.shared) ++ part.stored
 
 -- where row k begins, for n rows of so many words
 abbrev pub row_start : ℕ → ℕ → ℕ → ℕ
@@ -62,16 +62,16 @@ row_start n share_words k = 2 + n + k * share_words
 
 -- number k's count and row are as it is kept
 pub record IsRow (n share_words : ℕ) (words : List ℕ) (k : ℕ) (part : Part) : Type 0 where
-  pub count : slice_index words (2 + k) ≡ length (spelled (all_heard part.shared))
+  pub count : slice_index words (2 + k) ≡ length (spelled (all_received part.shared))
   pub fits : length (row_words part) ≤ share_words
   pub begins : (m : ℕ) → m < length (row_words part) → slice_index words (row_start n share_words k + m) ≡ slice_index (row_words part) m
-  pub plain : (h : Heard) → Contains (all_heard part.shared) h → IsPlain h
+  pub plain : (h : Received) → Contains (all_received part.shared) h → IsPlain h
   pub short : length part.log ≤ 1000001
   pub wide : length part.rows ≡ n
 
 -- what is known of another number's row are the first entries that it shared, of whose words some were loaded
-pub record IsHeard (r : RowView) (other : Part) : Type 0 where
-  pub known : IsPrefix r.known (all_heard other.shared)
+pub record IsReceived (r : RowView) (other : Part) : Type 0 where
+  pub known : IsPrefix r.known (all_received other.shared)
   pub loaded : r.loaded ≤ length (spelled r.known)
 
 -- the verdict that a number has seen stands; where one was offered some verdict stands, and Unsafe stands only where it was offered
@@ -89,7 +89,7 @@ pub record IsKept (p : Problem) (n share_words : ℕ) (words : List ℕ) (parts 
   pub verdict : IsVerdict (slice_index words 1) parts
   pub reached : IsReached p n (core_of words parts)
   pub rows : (k : ℕ) (part : Part) → slice_get parts k ≡ Some part → IsRow n share_words words k part
-  pub heard : (k j : ℕ) (part other : Part) (r : RowView) → slice_get parts k ≡ Some part → slice_get parts j ≡ Some other → slice_get part.rows j ≡ Some r → IsHeard r other
+  pub received : (k j : ℕ) (part other : Part) (r : RowView) → slice_get parts k ≡ Some part → slice_get parts j ≡ Some other → slice_get part.rows j ≡ Some r → IsReceived r other
 
 -- a view has what is kept of a number
 pub record Has (views : List View) (number id : ℕ) (part : Part) : Type 0 where

@@ -2,12 +2,12 @@
 use Rattle.std.specs.Prelude.{◌≡◌, ℕ, ◌+◌, ◌*◌, ◌<◌, ◌≤◌, true, false, List, [], ◌++◌, length, slice_get, slice_index, slice_index_or, Contains, Some}
 use Rattle.atomic_table.specs.Seated.{TableId}
 use Rattle.cnf_problem.specs.declared.problem.Problem.{Problem}
-use Rattle.clause_exchange.specs.declared.rule.Heard.{Heard}
+use Rattle.clause_exchange.specs.declared.rule.Received.{Received}
 use Rattle.clause_exchange.specs.declared.rule.RowView.{RowView}
 use Rattle.clause_exchange.specs.declared.rule.Part.{Part}
 use Rattle.clause_exchange.specs.declared.rule.View.{View}
 use Rattle.clause_exchange.specs.declared.counters.Counters.{Counters}
-use Rattle.clause_exchange.specs.Spelling.{all_heard, spelled}
+use Rattle.clause_exchange.specs.Spelling.{all_received, spelled}
 
 -- what an exchange is known by: its table, its problem, and its sizes
 pub record ExchangeId : Type 0 where
@@ -31,12 +31,12 @@ cell number row = 16 * number + row
 
 -- the words of the own row that are written
 abbrev pub written : Part → ℕ
-written part = length (spelled (all_heard part.shared))
+written part = length (spelled (all_received part.shared))
 
 -- what was read of the row ends with an entry
 pub record IsWhole (r : RowView) : Type 0 where
-  pub read : List Heard
-  pub unread : List Heard
+  pub read : List Received
+  pub unread : List Received
   pub all : r.known ≡ read ++ unread
   pub place : r.loaded ≡ length (spelled read)
 
@@ -47,7 +47,12 @@ pub record IsTiedRow (share_words looked loaded : ℕ) (r : RowView) : Type 0 wh
   pub loaded_is : loaded ≡ r.loaded
   pub whole : IsWhole r
 
--- the counters have what is kept of one number, which is storing no entry
+-- nothing is known of the row
+pub record IsBlank (r : RowView) : Type 0 where
+  pub known : r.known ≡ []
+  pub loaded : r.loaded ≡ 0
+
+-- the counters have what is kept of one number, which is storing no entry and knows nothing of its own row
 pub record IsTiedPart (n share_words : ℕ) (c : Counters) (part : Part) : Type 0 where
   pub within : part.number < n
   pub own : slice_index_or c.owns part.number false ≡ true
@@ -55,6 +60,7 @@ pub record IsTiedPart (n share_words : ℕ) (c : Counters) (part : Part) : Type 
   pub written_is : slice_index c.written part.number ≡ written part
   pub fits : written part ≤ share_words
   pub wide : length part.rows ≡ n
+  pub blank : (r : RowView) → slice_get part.rows part.number ≡ Some r → IsBlank r
   pub rows : (j : ℕ) (r : RowView) → slice_get part.rows j ≡ Some r → IsTiedRow share_words (slice_index c.looked (cell part.number j)) (slice_index c.loaded (cell part.number j)) r
 
 -- a number of the view

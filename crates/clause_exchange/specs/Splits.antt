@@ -15,7 +15,7 @@ from_on cut parts = filter (λ (q : Part). not (nat_lt q.number cut)) parts
 
 -- the view with other numbers, which is about to do nothing
 abbrev pub with_parts : View → List Part → View
-with_parts v parts = record { problem = v.problem; workers = v.workers; share_words = v.share_words; parts = parts; means = None; cut = 0; spent = v.spent }
+with_parts v parts = record { problem = v.problem; workers = v.workers; share_words = v.share_words; parts = parts; announced = None; cut = 0; spent = v.spent }
 
 -- the two views after a split
 abbrev pub left_of : View → View
@@ -48,4 +48,4 @@ no_problem = record {
 
 -- the view of a seat that was joined to another
 abbrev pub spent_view : View
-spent_view = record { problem = no_problem; workers = 0; share_words = 0; parts = []; means = None; cut = 0; spent = true }
+spent_view = record { problem = no_problem; workers = 0; share_words = 0; parts = []; announced = None; cut = 0; spent = true }

@@ -1,13 +1,14 @@
 // The calls that workers and the top of the search make.
-ghost use Rattle.std.specs.Prelude.{◌≡◌, ◌≢◌, ℕ, ◌+◌, ◌<◌, ◌≤◌, List, ◌++◌, [], length, take, Contains, Some, None, IfOk, MatchBool};
+ghost use Rattle.std.specs.Prelude.{◌≡◌, ◌≢◌, ℕ, ◌+◌, ◌<◌, ◌≤◌, List, ◌++◌, [], length, Contains, Some, None, IfOk, MatchBool};
 ghost use Rattle.search_core.specs.declared.Entry.{Entry as TheEntry};
 ghost use Rattle.search_core.specs.declared.Verdict.TheVariants.{Safe, Unsafe};
-ghost use Rattle.clause_exchange.specs.declared.rule.Heard.{Heard as TheHeard};
+ghost use Rattle.clause_exchange.specs.declared.rule.Part.{Part as ThePart};
+ghost use Rattle.clause_exchange.specs.declared.rule.Received.{Received as TheReceived};
 ghost use Rattle.clause_exchange.specs.Rule.{new_view};
-ghost use Rattle.clause_exchange.specs.Plays.{mine, row_of, with_part, with_entry, seeing, offering, IsAt, HasCause};
+ghost use Rattle.clause_exchange.specs.Steps.{mine, row_of, with_part, with_entry, seeing, offering, HasCause};
 ghost use Rattle.clause_exchange.specs.Splits.{with_parts, below, from_on};
 ghost use Rattle.clause_exchange.specs.Seats.{exchange_of};
-ghost use Rattle.clause_exchange.specs.Calls.{HasOne, HasRoom, HasNoRoom, CanAppend, IsLogged, IsOther, IsFound, IsAllRead, Cuts, after_share, after_look, after_read};
+ghost use Rattle.clause_exchange.specs.Calls.{HasOne, HasRoom, HasNoRoom, CanAppend, IsLogged, IsOther, IsFound, IsAllRead, IsRead, IsNumbered, Cuts, after_share, after_look, after_read};
 ghost use Rattle.clause_exchange.specs.Closing.{HasAll, IsShown, TicketsAreIn, EntriesFollow, SeenStands, OfferStands, WasOffered, HasEmptyClause, ReadsWereShared};
 
 use crate::board::Board;
@@ -69,12 +70,25 @@ impl<'a> Exchange<'a> {
         Ok((Exchange { board }, seat))
     }
 
-    /// Appends a lemma to the log of the seat's number, by one draw of a ticket. Answers the ticket.
+    /// The number of workers. Each of the seat's numbers is below it, has a row for each worker, and
+    /// knows nothing of its own row.
+    pub fn workers(&self, seat: &Seat) -> u32
+        requires same { exchange_of seat.now ≡ self.now }
+        ensures count { result ≡ seat.now.view.workers }
+        ensures numbers { (part : ThePart) → Contains seat.now.view.parts part → IsNumbered seat.now.view.workers part }
+    {
+        let _ = &seat.counters;
+        self.board.workers
+    }
+
+    /// Appends a lemma to the log of the seat's number, by one draw of a ticket. Answers the ticket,
+    /// which is above those of the log.
     pub fn append(&self, seat: &mut Seat, lemma: &Lemma) -> u32
         requires same { exchange_of seat.old ≡ self.now }
         requires one { HasOne seat.old.view }
         requires may { CanAppend seat.old.view lemma.now }
         ensures same { exchange_of seat.new ≡ exchange_of seat.old }
+        ensures fresh { (e : TheEntry) → Contains (mine seat.old.view).log e → e.ticket < result }
         ensures log { seat.new.view ≡ with_part seat.old.view (with_entry (mine seat.old.view) result lemma.now) }
     {
         append_lemma(&self.board, &mut seat.token, lemma) as u32
@@ -118,7 +132,7 @@ impl<'a> Exchange<'a> {
         requires one { HasOne seat.old.view }
         requires row { IsOther seat.old.view row }
         ensures same { exchange_of seat.new ≡ exchange_of seat.old }
-        ensures known { (known : List TheHeard) × IsFound seat.old.view row result known × (seat.new.view ≡ after_look seat.old.view row known) }
+        ensures known { (known : List TheReceived) × IsFound seat.old.view row result known × (seat.new.view ≡ after_look seat.old.view row known) }
     {
         let words = load_count(&self.board, &mut seat.token, row) as u32;
         seat.counters.looked[(16 * seat.number + row) as usize] = words;
@@ -132,7 +146,7 @@ impl<'a> Exchange<'a> {
         requires one { HasOne seat.old.view }
         requires row { IsOther seat.old.view row }
         ensures same { exchange_of seat.new ≡ exchange_of seat.old }
-        ensures read { MatchBool result ((h : TheHeard) × IsAt (row_of (mine seat.old.view) row) h 0 × (into.new.ticket ≡ h.ticket) × (into.new.worker ≡ row) × (take into.new.len into.new.lits ≡ h.lits) × (seat.new.view ≡ after_read seat.old.view row h)) (IsAllRead (row_of (mine seat.old.view) row) × (seat.new.view ≡ seat.old.view) × (into.new ≡ into.old)) }
+        ensures read { MatchBool result ((entry : TheReceived) × IsRead seat.old.view row into.new entry × (seat.new.view ≡ after_read seat.old.view row entry)) (IsAllRead (row_of (mine seat.old.view) row) × (seat.new.view ≡ seat.old.view) × (into.new ≡ into.old)) }
     {
         let at = (16 * seat.number + row) as usize;
         let loaded = seat.counters.loaded[at];

@@ -1,5 +1,5 @@
 ghost use Rattle.search_core.specs.CoreLaws.{NoOppositeOffers, SoundAfterEvents, SoundIsKept, VerdictStays};
-ghost use Rattle.clause_exchange.specs.ExchangeLaws.{ReadingGrows};
+ghost use Rattle.clause_exchange.specs.ExchangeLaws.{ReadingGrows, ReadingIsAll};
 
 /// The law of the core, over every list of events: each ticket below the next one is in exactly one
 /// log; each entry follows from the problem and the entries with lower tickets, and is true in each
@@ -16,4 +16,9 @@ pub fn core_holds_after_any_events()
 /// The reading of a row ends with the entry that was read.
 pub fn reading_grows()
     ensures { ReadingGrows }
+{}
+
+/// Where all within the words looked at is read, the reading of a row is all that is known of it.
+pub fn reading_is_all()
+    ensures { ReadingIsAll }
 {}

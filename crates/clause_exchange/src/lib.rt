@@ -25,12 +25,11 @@ mod rule;
 mod seat;
 mod spelling;
 mod steps;
-#[cfg(test)]
-mod tests;
 mod verdicts;
 
 pub use exchange::Exchange;
-pub use laws::{core_holds_after_any_events, reading_grows};
+pub use laws::{core_holds_after_any_events, reading_grows, reading_is_all};
 pub use reading::Shared;
-pub use rule::{Heard, Law, Part, RowView, Setup, View};
+pub use rule::{Law, Part, Received, RowView, Setup, View};
 pub use seat::Seat;
+pub use spelling::{head_word, pair_word};

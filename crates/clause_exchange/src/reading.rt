@@ -1,9 +1,10 @@
-ghost use Rattle.std.specs.Prelude.{◌≡◌, ◌≢◌, ◌+◌, ◌*◌, ◌<◌, slice_index_or, ◌≤◌, length, take, Some, slice_get};
-ghost use Rattle.clause_exchange.specs.declared.rule.Heard.{Heard as TheHeard};
+ghost use Rattle.std.specs.Prelude.{◌≡◌, ◌≢◌, ◌+◌, ◌*◌, ◌<◌, slice_index_or, ◌≤◌, length, take, All, Some, slice_get};
+ghost use Rattle.cnf_problem.specs.Literals.{IsOver};
+ghost use Rattle.clause_exchange.specs.declared.rule.Received.{Received as TheReceived};
 ghost use Rattle.clause_exchange.specs.declared.rule.RowView.{RowView as TheRow};
 ghost use Rattle.clause_exchange.specs.declared.rule.Part.{Part as ThePart};
 ghost use Rattle.clause_exchange.specs.Spelling.{spelled, entry_size, IsPlain};
-ghost use Rattle.clause_exchange.specs.Plays.{IsOne, IsAt, no_lit, with_part, with_row, with_loaded};
+ghost use Rattle.clause_exchange.specs.Steps.{IsOne, IsAt, no_lit, with_part, with_row, with_loaded};
 
 use crate::board::Board;
 use crate::rule::{Token, View};
@@ -22,7 +23,7 @@ pub struct Shared {
 
 /// Loads the head word of the next entry of a row: its ticket, and how many literals it has.
 fn load_head(board: &Board, seat: &mut Token, row: u32, loaded: u32) -> (u32, u32)
-    ghost told: { (ThePart × TheRow) × TheHeard }
+    ghost told: { (ThePart × TheRow) × TheReceived }
     requires same { seat.old.table_id ≡ board.now.table.shared.table_id }
     requires one { IsOne seat.old.me.0 told.0.0 }
     requires sizes { (seat.old.me.0.workers ≡ board.now.workers) × (seat.old.me.0.share_words ≡ board.now.share_words) }
@@ -37,6 +38,7 @@ fn load_head(board: &Board, seat: &mut Token, row: u32, loaded: u32) -> (u32, u3
     ensures few { result.1 ≤ 32 }
     ensures room { loaded + entry_size result.1 ≤ board.now.share_words }
     ensures plain { IsPlain told.1 }
+    ensures over { All (IsOver seat.old.me.0.problem.vars) told.1.lits }
 {
     let head = load_word(board, seat, row, loaded);
     ((head / 64) as u32, (head % 64) as u32)
@@ -44,7 +46,7 @@ fn load_head(board: &Board, seat: &mut Token, row: u32, loaded: u32) -> (u32, u3
 
 /// Loads word `1 + i` of an entry: the codes of two literals.
 fn load_pair(board: &Board, seat: &mut Token, row: u32, place: u32, i: u32) -> (u32, u32)
-    ghost told: { (ThePart × TheRow) × TheHeard }
+    ghost told: { (ThePart × TheRow) × TheReceived }
     requires same { seat.old.table_id ≡ board.now.table.shared.table_id }
     requires one { IsOne seat.old.me.0 told.0.0 }
     requires sizes { (seat.old.me.0.workers ≡ board.now.workers) × (seat.old.me.0.share_words ≡ board.now.share_words) }
@@ -70,7 +72,7 @@ pub(crate) fn read_entry(
     loaded: u32,
     into: &mut Shared,
 ) -> u32
-    ghost told: { (ThePart × TheRow) × TheHeard }
+    ghost told: { (ThePart × TheRow) × TheReceived }
     requires same { seat.old.table_id ≡ board.now.table.shared.table_id }
     requires one { IsOne seat.old.me.0 told.0.0 }
     requires sizes { (seat.old.me.0.workers ≡ board.now.workers) × (seat.old.me.0.share_words ≡ board.now.share_words) }
@@ -83,7 +85,9 @@ pub(crate) fn read_entry(
     ensures view { seat.new.me.0 ≡ with_part seat.old.me.0 (with_row told.0.0 row (with_loaded told.0.1 result)) }
     ensures loaded { result ≡ loaded + entry_size (length told.1.lits) }
     ensures ticket { (into.new.ticket ≡ told.1.ticket) × (into.new.worker ≡ row) }
+    ensures len { (into.new.len ≡ length told.1.lits) × (into.new.len ≤ 32) }
     ensures lits { take into.new.len into.new.lits ≡ told.1.lits }
+    ensures over { All (IsOver seat.old.me.0.problem.vars) told.1.lits }
 {
     let (ticket, len) = load_head(board, seat, row, loaded);
     into.ticket = ticket;

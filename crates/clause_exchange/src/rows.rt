@@ -3,7 +3,7 @@ ghost use Rattle.search_core.specs.declared.Entry.{Entry as TheEntry};
 ghost use Rattle.clause_exchange.specs.declared.rule.Part.{Part as ThePart};
 ghost use Rattle.clause_exchange.specs.Spelling.{entry_size};
 ghost use Rattle.clause_exchange.specs.Rule.{row_words};
-ghost use Rattle.clause_exchange.specs.Plays.{IsOne, with_part, with_shared, IsOfLog};
+ghost use Rattle.clause_exchange.specs.Steps.{IsOne, with_part, with_shared, IsOfLog};
 
 use crate::board::Board;
 use crate::rule::{Token, View};

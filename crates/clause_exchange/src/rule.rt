@@ -8,7 +8,7 @@ use sqlite_items::Items;
 
 /// What a row tells of an entry: its ticket and its literals, without the kind.
 #[derive(Drop)]
-pub struct Heard {
+pub struct Received {
     pub ticket: u32,
     pub lits: Items<Lit>,
 }
@@ -16,7 +16,7 @@ pub struct Heard {
 /// What a number knows of another number's row: the entries below the count that it saw last, how many of their words it loaded, how long its own log was at that look, and how often it looked.
 #[derive(Drop)]
 pub struct RowView {
-    pub known: Items<Heard>,
+    pub known: Items<Received>,
     pub loaded: u32,
     pub log_then: u32,
     pub looks: u32,
@@ -42,7 +42,7 @@ pub struct View {
     pub workers: u32,
     pub share_words: u32,
     pub parts: Items<Part>,
-    pub means: Option<Lemma>,
+    pub announced: Option<Lemma>,
     pub cut: u32,
     pub spent: bool,
 }

@@ -3,8 +3,8 @@ ghost use Rattle.clause_exchange.specs.Spelling.{spelled_lits, AreCodes};
 
 use dg_base::Lit;
 
-/// The word before the literals of an entry: its ticket, and how many literals it has.
-pub(crate) fn head_word(ticket: u32, lits: usize) -> u64
+/// The word before the literals of an entry in a row: its ticket, and how many literals it has.
+pub fn head_word(ticket: u32, lits: usize) -> u64
     requires { lits ≤ 32 }
     ensures { result ≡ 64 * ticket + lits }
 {
@@ -12,7 +12,7 @@ pub(crate) fn head_word(ticket: u32, lits: usize) -> u64
 }
 
 /// The word that spells two literals of an entry, or its last one.
-pub(crate) fn pair_word(lits: &[Lit], i: usize) -> u64
+pub fn pair_word(lits: &[Lit], i: usize) -> u64
     requires { 2 * i < length lits.now }
     ensures { slice_get (spelled_lits lits.now) i ≡ Some result }
 {

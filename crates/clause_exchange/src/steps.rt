@@ -1,12 +1,13 @@
-ghost use Rattle.std.specs.Prelude.{List, ◌++◌, ◌≡◌, ◌≢◌, ◌+◌, ◌*◌, ◌<◌, ◌≤◌, [], ◌∷◌, Some, false, length, slice_get, Contains};
+ghost use Rattle.std.specs.Prelude.{List, ◌++◌, ◌≡◌, ◌≢◌, ◌+◌, ◌*◌, ◌<◌, ◌≤◌, [], ◌∷◌, Some, false, length, slice_get, All, Contains};
 ghost use mathlib.Core.List.{IsPrefix};
+ghost use Rattle.cnf_problem.specs.Literals.{IsOver};
 ghost use Rattle.search_core.specs.declared.Entry.{Entry as TheEntry};
-ghost use Rattle.clause_exchange.specs.declared.rule.Heard.{Heard as TheHeard};
+ghost use Rattle.clause_exchange.specs.declared.rule.Received.{Received as TheReceived};
 ghost use Rattle.clause_exchange.specs.declared.rule.RowView.{RowView as TheRow};
 ghost use Rattle.clause_exchange.specs.declared.rule.Part.{Part as ThePart};
 ghost use Rattle.clause_exchange.specs.Spelling.{spelled, IsPlain};
 ghost use Rattle.clause_exchange.specs.Rule.{row_words, row_start, verdict_of};
-ghost use Rattle.clause_exchange.specs.Plays.{Means, Cuts, Agrees, Appends, Looks, Loads, Stores, Shares, Sees, Offers, MayAppend, MayOffer, seeing, offering, offered_to, code_of, MayShare, IsOne, with_part, with_entry, with_row, with_word, with_shared, looked_at, loaded_more};
+ghost use Rattle.clause_exchange.specs.Steps.{Announces, Cuts, Agrees, Appends, Looks, Loads, Stores, Shares, Sees, Offers, MayAppend, MayOffer, seeing, offering, offered_to, code_of, MayShare, IsOne, IsAbove, with_part, with_entry, with_row, with_word, with_shared, looked_at, loaded_more};
 ghost use Rattle.clause_exchange.specs.Splits.{left_of, right_of, joined, spent_view, with_parts, below, from_on};
 
 use crate::board::Board;
@@ -19,7 +20,7 @@ use search_core::Verdict;
 pub struct Announce;
 
 impl Play<Lemma, View> for Announce {
-    ghost then = { Means };
+    ghost then = { Announces };
 }
 
 pub struct Cut;
@@ -99,7 +100,7 @@ fn tell_lemma(board: &Board, seat: &mut Token, lemma: &Lemma)
     requires live { seat.old.me.0.spent ≡ false }
     ensures same { seat.new.table_id ≡ seat.old.table_id }
     ensures slots { seat.new.me.1 ≡ seat.old.me.1 }
-    ensures means { seat.new.me.0 ≡ record seat.old.me.0 { means = Some lemma.now } }
+    ensures announced { seat.new.me.0 ≡ record seat.old.me.0 { announced = Some lemma.now } }
 {
     let _found = board
         .table
@@ -115,6 +116,7 @@ pub(crate) fn append_lemma(board: &Board, seat: &mut Token, lemma: &Lemma) -> u6
     ensures same { seat.new.table_id ≡ seat.old.table_id }
     ensures slots { seat.new.me.1 ≡ seat.old.me.1 }
     ensures small { result ≤ 16000016 }
+    ensures fresh { IsAbove result told.log }
     ensures log { seat.new.me.0 ≡ with_part seat.old.me.0 (with_entry told result lemma.now) }
 {
     tell_lemma(board, seat, lemma);
@@ -131,7 +133,7 @@ pub(crate) fn load_count(board: &Board, seat: &mut Token, row: u32) -> u64
     requires other { row ≢ told.0.number }
     ensures same { seat.new.table_id ≡ seat.old.table_id }
     ensures slots { seat.new.me.1 ≡ seat.old.me.1 }
-    ensures known { (known : List TheHeard) × (result ≡ length (spelled known)) × (result ≤ seat.old.me.0.share_words) × IsPrefix told.1.known known × (seat.new.me.0 ≡ with_part seat.old.me.0 (with_row told.0 row (looked_at told.1 known (length told.0.log)))) }
+    ensures known { (known : List TheReceived) × (result ≡ length (spelled known)) × (result ≤ seat.old.me.0.share_words) × IsPrefix told.1.known known × (seat.new.me.0 ≡ with_part seat.old.me.0 (with_row told.0 row (looked_at told.1 known (length told.0.log)))) }
 {
     board.table.shared.load::<Look>(seat, 2 + row as usize)
 }
@@ -150,7 +152,8 @@ pub(crate) fn load_word(board: &Board, seat: &mut Token, row: u32, place: u32) -
     ensures same { seat.new.table_id ≡ seat.old.table_id }
     ensures slots { seat.new.me.1 ≡ seat.old.me.1 }
     ensures word { slice_get (spelled told.1.known) told.1.loaded ≡ Some result }
-    ensures plain { (h : TheHeard) → Contains told.1.known h → IsPlain h }
+    ensures plain { (h : TheReceived) → Contains told.1.known h → IsPlain h }
+    ensures over { (h : TheReceived) → Contains told.1.known h → All (IsOver seat.old.me.0.problem.vars) h.lits }
     ensures loaded { seat.new.me.0 ≡ with_part seat.old.me.0 (with_row told.0 row (loaded_more told.1)) }
 {
     board

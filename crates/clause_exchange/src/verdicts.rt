@@ -1,6 +1,6 @@
 ghost use Rattle.std.specs.Prelude.{◌≡◌, ◌<◌};
 ghost use Rattle.clause_exchange.specs.Rule.{verdict_of};
-ghost use Rattle.clause_exchange.specs.Plays.{code_of};
+ghost use Rattle.clause_exchange.specs.Steps.{code_of};
 
 use search_core::Verdict;
 

@@ -14,7 +14,7 @@ use Rattle.cnf_problem.proofs.LiteralLaws.{same_lit}
 use Rattle.trail_state.specs.Trails.{Assigned, TrailView, true_lits}
 use Rattle.clause_store.specs.Choosing.{IsChosen}
 use Rattle.clause_store.specs.Linked.{IsLaid, LinksView, end_of_list}
-use Rattle.clause_store.specs.Looking.{AreOver}
+use Rattle.clause_store.specs.NewWatch.{AreOver}
 use Rattle.clause_store.specs.Stores.{AreWatched, IsExamined, IsFresh, IsNotFalseBelow}
 use Rattle.clause_store.specs.Watching.{GuardsBelow, GuardsHere, IsLink, Watches, clause_of, watched, twin}
 use Rattle.clause_store.proofs.Laying.{index_left, index_right, no_links}

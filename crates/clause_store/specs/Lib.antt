@@ -1,7 +1,7 @@
 pub mod Choosing
 pub mod Laws
 pub mod Linked
-pub mod Looking
+pub mod NewWatch
 pub mod Stores
 pub mod Visiting
 pub mod Watching

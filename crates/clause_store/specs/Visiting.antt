@@ -4,7 +4,7 @@ use Rattle.cnf_problem.specs.Literals.{negated}
 use Rattle.cnf_problem.specs.Chains.{IsFalse, AllFalse, OthersFalse, IsUnassigned}
 use Rattle.trail_state.specs.Trails.{Assigned, Forced, true_lits, level, up_to}
 use Rattle.trail_state.specs.Forcing.{IsConflict}
-use Rattle.clause_store.specs.Looking.{AreOver}
+use Rattle.clause_store.specs.NewWatch.{AreOver}
 use Rattle.clause_store.specs.Linked.{IsLinked, end_of_list}
 use Rattle.clause_store.specs.Watching.{GuardsHere, IsLink, IsTrueForEver, Watches, clause_of, watched, twin}
 

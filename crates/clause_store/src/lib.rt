@@ -16,18 +16,15 @@
 //! undoing keep. `IsWatching` holds of a new store and an empty trail.
 #![tactic(auto)]
 
-mod choosing;
 mod clause_list;
-mod examining;
+mod fresh_clauses;
 mod laws;
 mod links;
-mod looking;
+mod new_watch;
+mod propagate;
 mod store;
-mod taking;
-mod visiting;
+mod watch_choice;
+mod watch_lists;
 
 pub use laws::{watched_is_fixpoint_below, watches_are_kept};
 pub use store::Store;
-
-#[cfg(test)]
-mod tests;

@@ -4,14 +4,14 @@ ghost use Rattle.cnf_problem.specs.Chains.{IsFixpoint};
 ghost use Rattle.cnf_problem.specs.declared.problem.Problem.{Problem as TheProblem};
 ghost use Rattle.trail_state.specs.Forcing.{AddsForced, IsConflict};
 ghost use Rattle.trail_state.specs.Trails.{level, true_lits};
-ghost use Rattle.clause_store.specs.Looking.{AreOver};
+ghost use Rattle.clause_store.specs.NewWatch.{AreOver};
 ghost use Rattle.clause_store.specs.Stores.{CanBeWatched, IsSettled, IsWatching, WatchesBelow, clauses_of};
 
-use crate::choosing::choose;
 use crate::clause_list::clause_at;
-use crate::examining::{examine_fresh, know_well};
+use crate::fresh_clauses::{examine_fresh, know_well};
 use crate::links::Links;
-use crate::taking::visit_taken;
+use crate::propagate::visit_taken;
+use crate::watch_choice::choose;
 use cnf_problem::{Clauses, Problem};
 use dg_base::{Lit, OutOfMemory};
 use std::alloc::Global;

@@ -1,4 +1,4 @@
-use Rattle.std.specs.Prelude.{◌≡◌, ℕ, ◌≤◌, ◌+◌, ◌-◌, ◌*◌, ◌/◌, ◌%◌, Bool, true, false, not, ◌==◌, if◌then◌else◌, List, slice_index_or, Contains}
+use Rattle.std.specs.Prelude.{◌≡◌, ℕ, ◌≤◌, ◌+◌, ◌-◌, ◌*◌, ◌/◌, ◌%◌, Bool, true, false, not, ◌==◌, if◌then◌else◌, List, slice_get, slice_index_or, Contains, Some}
 use Rattle.dg_base.specs.declared.Lit.{Lit}
 
 -- the variable of a literal
@@ -37,3 +37,8 @@ AreSatisfied assignment clauses = (clause : List Lit) → Contains clauses claus
 -- each of these literals is true under the assignment
 abbrev pub AllTrue : List Bool → List Lit → Type 0
 AllTrue assignment lits = (l : Lit) → Contains lits l → value assignment l ≡ true
+
+-- no variable stands twice in the clause
+abbrev pub IsWithoutRepeats : List Lit → Type 0
+IsWithoutRepeats clause =
+    (i j : ℕ) (a b : Lit) → slice_get clause i ≡ Some a → slice_get clause j ≡ Some b → var a ≡ var b → i ≡ j

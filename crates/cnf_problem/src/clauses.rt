@@ -132,6 +132,16 @@ impl Clauses {
         Ok(())
     }
 
+    /// Makes room for so many more clauses, with so many literals together. The clauses stay as
+    /// they are, also where memory is wanting.
+    pub fn reserve(&mut self, clauses: usize, lits: usize) -> Result<(), OutOfMemory>
+        ensures { self.new ≡ self.old }
+    {
+        self.ends.reserve(clauses)?;
+        self.lits.reserve(lits)?;
+        Ok(())
+    }
+
     /// Gives back the memory that no clause takes.
     pub fn shrink_to_fit(&mut self)
         ensures same { self.new ≡ self.old }

@@ -5,7 +5,7 @@ ghost use Rattle.cnf_problem.specs.Literals.{value, positive as positive_lit, Is
 ghost use Rattle.cnf_problem.specs.Formulas.{Formula, true_lit, HasValue, IsBuilt, AddsFree, IsGate};
 
 use crate::clauses::Clauses;
-use crate::literals::{MAX_VARS, negated, positive};
+use crate::literals::{MAX_VARS, TRUE, negated, positive};
 use crate::problem::{Atom, Edge, Node, Problem};
 use dg_base::{List, Lit, OutOfMemory};
 use std::alloc::Global;
@@ -47,8 +47,16 @@ impl Gates {
         ensures { IfOk result (λ gates. gates ≡ record { vars = 1; clauses = (true_lit ∷ []) ∷ [] }) }
     {
         let mut clauses = Clauses::new(alloc);
-        clauses.push(&[Lit(2)])?;
+        clauses.push(&[TRUE])?;
         Ok(Gates { vars: 1, clauses })
+    }
+
+    /// Makes room for so many more clauses, with so many literals together. What is built stays as
+    /// it is, also where memory is wanting.
+    pub fn reserve(&mut self, clauses: usize, lits: usize) -> Result<(), OutOfMemory>
+        ensures { self.new ≡ self.old }
+    {
+        self.clauses.reserve(clauses, lits)
     }
 
     /// The literal that is always true, or the one that is always false.
@@ -57,7 +65,7 @@ impl Gates {
         ensures exact { HasValue self.now.clauses result (λ _. value) }
     {
         let _ = &self.vars;
-        if value { Lit(2) } else { Lit(3) }
+        if value { TRUE } else { Lit(3) }
     }
 
     /// A new variable, of which no clause speaks. It is refused where all variables are used.

@@ -32,7 +32,7 @@ pub use laws::{
     extensions_compose, fixpoint_has_chains, fixpoint_makes_new, following_is_true,
     follows_from_more, new_is_not_listed, refuted_has_no_assignment,
 };
-pub use literals::{MAX_VARS, negated, positive, var};
+pub use literals::{MAX_VARS, TRUE, negated, positive, var};
 pub use problem::{Assignment, Atom, AtomKind, Edge, Graph, Head, Lemma, LemmaKind, Node, Problem};
 
 #[cfg(test)]

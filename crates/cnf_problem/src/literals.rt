@@ -6,6 +6,9 @@ use dg_base::Lit;
 /// The greatest number of a variable, so that a literal fits 32 bits.
 pub const MAX_VARS: u32 = 2147483647;
 
+/// The literal that is always true in what `Gates` builds: variable 1.
+pub const TRUE: Lit = Lit(2);
+
 /// The literal that is this variable.
 pub fn positive(var: u32) -> Lit
     requires { var ≤ MAX_VARS }

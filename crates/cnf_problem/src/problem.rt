@@ -24,7 +24,7 @@ pub struct Edge {
 }
 
 /// What an atom says of its nodes. Where a read takes its value from a write, and another write
-/// comes behind that one, the read comes before the other write: such a pair of atoms derives a
+/// comes after that one, the read comes before the other write: such a pair of atoms derives a
 /// from-read edge.
 #[derive(Clone, Copy, Debug, PartialEq, Eq, Drop)]
 pub enum AtomKind {

@@ -102,6 +102,7 @@ fn crosses_threads<T: Send + Sync>(_: &T) {}
 fn finishes_a_problem(rt: HostRuntime) -> Result<(), Fail> {
     let alloc = rt.alloc();
     let mut gates = Gates::new(alloc)?;
+    gates.reserve(3, 9)?;
     let lit = gates.fresh()?;
     gates.clause(&[lit])?;
     let edge = Edge {

@@ -1,6 +1,6 @@
-use Rattle.std.specs.Prelude.{◌≡◌, ℕ, ◌<◌, ◌⊎◌, List, ◌∷◌, map, Contains, slice_get, Some}
+use Rattle.std.specs.Prelude.{◌≡◌, ℕ, ◌<◌, ◌⊎◌, List, ◌∷◌, map, Contains}
 use Rattle.dg_base.specs.declared.Lit.{Lit}
-use Rattle.cnf_problem.specs.Literals.{var, negated}
+use Rattle.cnf_problem.specs.Literals.{var, negated, IsWithoutRepeats}
 use Rattle.cnf_problem.specs.Chains.{AllFalse, OthersFalse, IsUnassigned, ReachesConflict}
 use Rattle.trail_state.specs.Trails.{Assigned, true_lits, level, level_of, up_to}
 use Rattle.trail_state.specs.Forcing.{reasons}
@@ -9,11 +9,6 @@ use Rattle.trail_state.specs.Forcing.{reasons}
 abbrev pub IsAsserting : List Assigned → List Lit → ℕ → Type 0
 IsAsserting entries clause k =
     (l : Lit) × Contains clause l × IsUnassigned (true_lits (up_to k entries)) l × OthersFalse (true_lits (up_to k entries)) clause l
-
--- no variable stands twice in the clause
-abbrev pub IsWithoutRepeats : List Lit → Type 0
-IsWithoutRepeats clause =
-    (i j : ℕ) (a b : Lit) → slice_get clause i ≡ Some a → slice_get clause j ≡ Some b → var a ≡ var b → i ≡ j
 
 -- the clause follows by a unit chain from the conflict and the reasons, is false, and asserts a literal at `back`, the least level at which it does; none of its literals is of level 0, one is of the level `back` if that isn't 0, and no variable stands twice
 pub record IsLearnt (clauses : List (List Lit)) (entries : List Assigned) (conflict lits : List Lit) (back : ℕ) : Type 0 where

@@ -1,11 +1,10 @@
 -- A resolvent of the conflict and of reasons, each literal of which is false, kept as marks on variables.
 use Rattle.std.specs.Prelude.{◌≡◌, ℕ, suc, ◌<◌, ◌≤◌, ◌^◌, ◌⊎◌, ◌==◌, Bool, true, false, ◌&&◌, List, ◌∷◌, ◌++◌, length, filter, Contains, slice_get, slice_index_or, Some}
 use Rattle.dg_base.specs.declared.Lit.{Lit}
-use Rattle.cnf_problem.specs.Literals.{var, negated}
+use Rattle.cnf_problem.specs.Literals.{var, negated, IsWithoutRepeats}
 use Rattle.cnf_problem.specs.Chains.{ReachesConflict}
 use Rattle.trail_state.specs.Trails.{TrailView, Assigned, true_lits, level, level_of, up_to}
 use Rattle.trail_state.specs.Forcing.{reasons}
-use Rattle.conflict_learn.specs.Learning.{IsWithoutRepeats}
 
 -- the literal's variable is marked
 abbrev pub is_marked : List Bool → Lit → Bool

@@ -22,6 +22,3 @@ mod learning;
 mod resolvent;
 
 pub use learning::{Learnt, learn};
-
-#[cfg(test)]
-mod tests;

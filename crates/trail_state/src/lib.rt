@@ -26,6 +26,3 @@ pub use lits::Lits;
 pub use reasons::{ClauseId, Reason, Reasons};
 pub use restarts::luby;
 pub use trail::Trail;
-
-#[cfg(test)]
-mod tests;

@@ -5,7 +5,7 @@ use Rattle.dg_base.specs.declared.Lit.{Lit}
 use Rattle.clause_exchange.specs.declared.rule.Part.{Part}
 use Rattle.clause_exchange.specs.declared.rule.RowView.{RowView}
 use Rattle.clause_exchange.specs.declared.rule.View.{View}
-use Rattle.clause_exchange.specs.Plays.{mine, row_of, with_part, with_row, with_loaded, no_lit}
+use Rattle.clause_exchange.specs.Steps.{mine, row_of, with_part, with_row, with_loaded, no_lit}
 use Rattle.clause_exchange.proofs.Decoding.{same_lits}
 use Rattle.clause_exchange.proofs.Listed.{write_twice, row_written}
 use Rattle.clause_exchange.proofs.reading.read_entry.Goals as goal

@@ -3,17 +3,17 @@ use Rattle.std.proofs.lemmas.List.{take_all, length-append}
 use Rattle.search_core.specs.declared.Entry.{Entry}
 use Rattle.search_core.proofs.Places.{place_of}
 use Rattle.dg_base.specs.declared.Lit.{Lit}
-use Rattle.clause_exchange.specs.declared.rule.Heard.{Heard}
+use Rattle.clause_exchange.specs.declared.rule.Received.{Received}
 use Rattle.clause_exchange.specs.declared.rule.Part.{Part}
 use Rattle.clause_exchange.specs.declared.rule.View.{View}
-use Rattle.clause_exchange.specs.Spelling.{heard_of, all_heard, spelled, spelled_entry, spelled_lits, AreCodes, IsPlain}
+use Rattle.clause_exchange.specs.Spelling.{received_of, all_received, spelled, spelled_entry, spelled_lits, AreCodes, IsPlain}
 use Rattle.clause_exchange.specs.Rule.{row_words}
-use Rattle.clause_exchange.specs.Plays.{mine, with_part, with_word, with_stored, with_shared, MayShare, IsOfLog}
+use Rattle.clause_exchange.specs.Steps.{mine, with_part, with_word, with_stored, with_shared, MayShare, IsOfLog}
 use Rattle.clause_exchange.proofs.Words.{take_more, lits_size}
 use Rattle.clause_exchange.proofs.rows.share_entry.Goals as goal
 
 -- one more word is stored
-stored_more : (v w : View) (part : Part) (h : Heard) (i word : ℕ) → v ≡ with_part w (with_stored part (take (1 + i) (spelled_entry h))) → slice_get (spelled_lits h.lits) i ≡ Some word
+stored_more : (v w : View) (part : Part) (h : Received) (i word : ℕ) → v ≡ with_part w (with_stored part (take (1 + i) (spelled_entry h))) → slice_get (spelled_lits h.lits) i ≡ Some word
     → with_part v (with_word (mine v) word) ≡ with_part w (with_stored part (take (1 + (i + 1)) (spelled_entry h)))
 stored_more v w part h i word view at =
     let n : 1 + i ≡ suc i = omega arith in
@@ -32,17 +32,17 @@ all_plain ticket lits small few codes = record {
 }
 
 -- what a row tells of the entry
-same_heard : (part : Part) (ticket : ℕ) (lits : List Lit) (e : Entry) → IsOfLog part ticket lits e → record { ticket = ticket; lits = lits } ≡ heard_of e
-same_heard part ticket lits e is = ap (λ t. heard t lits) is.ticket_is ∙ ap (λ ls. heard e.ticket ls) is.lits_are
+same_received : (part : Part) (ticket : ℕ) (lits : List Lit) (e : Entry) → IsOfLog part ticket lits e → record { ticket = ticket; lits = lits } ≡ received_of e
+same_received part ticket lits e is = ap (λ t. received t lits) is.ticket_is ∙ ap (λ ls. received e.ticket ls) is.lits_are
   where
-    heard : ℕ → List Lit → Heard
-    heard t ls = record { ticket = t; lits = ls }
+    received : ℕ → List Lit → Received
+    received t ls = record { ticket = t; lits = ls }
 
 -- the entry may be shared once its words are stored
 may_share : (v w : View) (part : Part) (ticket : ℕ) (lits : List Lit) (e : Entry) → w.spent ≡ false → v ≡ with_part w (with_stored part (spelled_entry (record { ticket = ticket; lits = lits }))) → IsOfLog part ticket lits e → IsPlain (record { ticket = ticket; lits = lits })
     → MayShare v (mine v) e
 may_share v w part ticket lits e live view is plain =
-    let same = same_heard part ticket lits e is in
+    let same = same_received part ticket lits e is in
     subst (λ (u : View). MayShare u (mine u) e) (sym view) (record {
       one = record { live = live; one = refl };
       listed = is.listed;
@@ -60,10 +60,10 @@ loop-i-preserved g c =
     )
 
 -- all words are stored
-size_after : (part : Part) (h : Heard) (written : ℕ) → part.stored ≡ [] → written ≡ length (row_words part) → written + 1 + (length h.lits + 1) / 2 ≡ length (row_words (with_stored part (spelled_entry h)))
+size_after : (part : Part) (h : Received) (written : ℕ) → part.stored ≡ [] → written ≡ length (row_words part) → written + 1 + (length h.lits + 1) / 2 ≡ length (row_words (with_stored part (spelled_entry h)))
 size_after part h written none is =
-    let a = length-append (spelled (all_heard part.shared)) (spelled_entry h) in
-    let b = length-append (spelled (all_heard part.shared)) part.stored in
+    let a = length-append (spelled (all_received part.shared)) (spelled_entry h) in
+    let b = length-append (spelled (all_received part.shared)) part.stored in
     let d = ap length none in
     let n = lits_size h.lits in
     omega arith
@@ -71,7 +71,7 @@ size_after part h written none is =
 pub store_count-requires : goal.store_count-requires
 store_count-requires g c =
     let inv = c.loop-i.invariant in
-    let h : Heard = record { ticket = c.args.ticket; lits = c.args.lits.now } in
+    let h : Received = record { ticket = c.args.ticket; lits = c.args.lits.now } in
     let part = g.told in
     let r = c.requires in
     let whole : take (1 + c.loop-i.i) (spelled_entry h) ≡ spelled_entry h = take_all (1 + c.loop-i.i) (spelled_entry h) (let n = lits_size c.args.lits.now in let t = c.loop-i-test.false in omega arith) in
@@ -92,7 +92,7 @@ store_count-requires g c =
 pub returns-clause-shared : goal.returns-clause-shared
 returns-clause-shared g c e is =
     let inv = c.loop-i.invariant in
-    let h : Heard = record { ticket = c.args.ticket; lits = c.args.lits.now } in
+    let h : Received = record { ticket = c.args.ticket; lits = c.args.lits.now } in
     let part = g.told in
     let r = c.requires in
     let whole : take (1 + c.loop-i.i) (spelled_entry h) ≡ spelled_entry h = take_all (1 + c.loop-i.i) (spelled_entry h) (let n = lits_size c.args.lits.now in let t = c.loop-i-test.false in omega arith) in

@@ -1,6 +1,6 @@
 use Rattle.std.proofs.Common.{◌≡◌, ◌+◌, take}
 use Rattle.clause_exchange.specs.Spelling.{spelled_entry}
-use Rattle.clause_exchange.specs.Plays.{mine, with_part, with_stored}
+use Rattle.clause_exchange.specs.Steps.{mine, with_part, with_stored}
 use Rattle.clause_exchange.proofs.rows.share_entry.Given as goal
 
 abbrev pub ghost-store_word : goal.ghost-store_word

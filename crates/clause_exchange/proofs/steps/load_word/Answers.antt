@@ -2,7 +2,7 @@ use Rattle.std.proofs.Common.{◌≡◌, ◌+◌, ℕ, sym, ap, subst, ◌∙◌
 use mathlib.Core.Option.{none}
 use Rattle.atomic_table.specs.Table.{Allows, step}
 use Rattle.clause_exchange.specs.Rule.{HoldsFor, row_start}
-use Rattle.clause_exchange.specs.Plays.{Loads}
+use Rattle.clause_exchange.specs.Steps.{Loads}
 use Rattle.clause_exchange.proofs.Looking.{loads}
 use Rattle.clause_exchange.proofs.steps.load_word.Goals as goal
 
@@ -33,3 +33,9 @@ returns-clause-plain g c =
     let me = c.args.seat.now.me in
     let at = where_it_is c.args.board.now.workers c.args.board.now.share_words me.0.workers me.0.share_words c.args.row c.args.place g.told.1.loaded c.place.result c.requires.1.1.0.0 c.requires.1.1.0.1 c.requires.1.1.1.1.1.0 c.place.ensures.place in
     (c.load.ensures.2.1 c.args.row g.told.0 g.told.1 at c.requires.1.0.one c.requires.1.1.1.0 c.requires.1.1.1.1.1.1.0).1
+
+pub returns-clause-over : goal.returns-clause-over
+returns-clause-over g c =
+    let me = c.args.seat.now.me in
+    let at = where_it_is c.args.board.now.workers c.args.board.now.share_words me.0.workers me.0.share_words c.args.row c.args.place g.told.1.loaded c.place.result c.requires.1.1.0.0 c.requires.1.1.0.1 c.requires.1.1.1.1.1.0 c.place.ensures.place in
+    (c.load.ensures.2.1 c.args.row g.told.0 g.told.1 at c.requires.1.0.one c.requires.1.1.1.0 c.requires.1.1.1.1.1.1.0).2

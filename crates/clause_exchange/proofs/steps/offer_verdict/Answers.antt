@@ -3,7 +3,7 @@ use mathlib.Core.Option.{none}
 use prog.Atomic.{either}
 use Rattle.atomic_table.specs.Table.{Allows, step}
 use Rattle.clause_exchange.specs.Rule.{HoldsFor}
-use Rattle.clause_exchange.specs.Plays.{Offers}
+use Rattle.clause_exchange.specs.Steps.{Offers}
 use Rattle.clause_exchange.proofs.Offering.{offers}
 use Rattle.clause_exchange.proofs.steps.offer_verdict.Goals as goal
 

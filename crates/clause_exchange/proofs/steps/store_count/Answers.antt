@@ -2,7 +2,7 @@ use Rattle.std.proofs.Common.{◌+◌, arith, sym, subst}
 use mathlib.Core.Option.{none}
 use Rattle.atomic_table.specs.Table.{Allows, step}
 use Rattle.clause_exchange.specs.Rule.{HoldsFor}
-use Rattle.clause_exchange.specs.Plays.{Shares}
+use Rattle.clause_exchange.specs.Steps.{Shares}
 use Rattle.clause_exchange.proofs.Storing.{shares}
 use Rattle.clause_exchange.proofs.steps.store_count.Goals as goal
 

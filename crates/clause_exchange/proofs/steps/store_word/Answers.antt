@@ -2,7 +2,7 @@ use Rattle.std.proofs.Common.{◌≡◌, ◌+◌, ℕ, length, arith, sym, ap, s
 use mathlib.Core.Option.{none}
 use Rattle.atomic_table.specs.Table.{Allows, step}
 use Rattle.clause_exchange.specs.Rule.{HoldsFor, row_start, row_words}
-use Rattle.clause_exchange.specs.Plays.{Stores}
+use Rattle.clause_exchange.specs.Steps.{Stores}
 use Rattle.clause_exchange.proofs.Storing.{stores}
 use Rattle.clause_exchange.proofs.steps.store_word.Goals as goal
 

@@ -1,4 +1,4 @@
-use Rattle.clause_exchange.specs.Plays.{mine}
+use Rattle.clause_exchange.specs.Steps.{mine}
 use Rattle.clause_exchange.proofs.exchange.Exchange.append.Given as goal
 
 abbrev pub ghost-append_lemma : goal.ghost-append_lemma

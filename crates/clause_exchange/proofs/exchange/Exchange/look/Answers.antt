@@ -1,11 +1,11 @@
-use Rattle.std.proofs.Common.{◌≡◌, ◌+◌, ◌*◌, ◌<◌, set, length, ap, sym, ◌∙◌, subst, refl, arith}
+use Rattle.std.proofs.Common.{◌≢◌, ◌≡◌, ◌+◌, ◌*◌, ◌<◌, set, length, ap, sym, ◌∙◌, subst, refl, arith}
 use Rattle.std.specs.Prelude.{slice_index}
 use Rattle.std.proofs.lemmas.List.{get_or-set_same, get_or-set_other}
 use Rattle.clause_exchange.specs.declared.rule.View.{View}
 use Rattle.clause_exchange.specs.declared.counters.Counters.{Counters}
 use Rattle.clause_exchange.specs.Seats.{SeatState, IsTied, cell}
 use Rattle.clause_exchange.specs.Calls.{HasOne}
-use Rattle.clause_exchange.specs.Plays.{mine, row_of, looked_at}
+use Rattle.clause_exchange.specs.Steps.{mine, row_of, looked_at}
 use Rattle.clause_exchange.proofs.Tying.{one_number, one_tied, row_there, tied_row, whole_looked}
 use Rattle.clause_exchange.proofs.exchange.Exchange.look.Goals as goal
 
@@ -15,6 +15,7 @@ invariant_of-seat c =
     let same = sym (ap (λ (q : SeatState). q.view) c.seat.view_is) in
     let one = subst HasOne same c.requires.one in
     let inside = subst (λ (u : View). c.args.row < u.workers) same c.requires.row.0 in
+    let other = subst (λ (u : View). c.args.row ≢ (mine u).number) same c.requires.row.1 in
     let v = s.token.me.0 in
     let k = s.number in
     let t = c.seat.invariant.0 in
@@ -29,7 +30,7 @@ invariant_of-seat c =
     let d : Counters = record { owns = s.counters.owns; written = s.counters.written; looked = set s.counters.looked (16 * k + c.args.row) words; loaded = s.counters.loaded } in
     let wrote = get_or-set_same s.counters.looked (16 * k + c.args.row) words 0 (let a = t.few in let b = h.within in omega arith) in (
       subst (λ u. IsTied u k d) (sym found.4)
-          (tied_row v k s.counters t one d c.args.row (looked_at r found.0 (length (mine v).log)) refl refl inside
+          (tied_row v k s.counters t one d c.args.row (looked_at r found.0 (length (mine v).log)) refl refl inside other
           (λ i apart. (get_or-set_other s.counters.looked (16 * k + c.args.row) i words 0 apart, refl))
           (record {
             looked_is = wrote ∙ found.1;

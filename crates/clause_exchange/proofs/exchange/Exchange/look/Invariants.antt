@@ -1,4 +1,4 @@
-use Rattle.clause_exchange.specs.Plays.{mine, row_of}
+use Rattle.clause_exchange.specs.Steps.{mine, row_of}
 use Rattle.clause_exchange.proofs.exchange.Exchange.look.Given as goal
 
 abbrev pub ghost-load_count : goal.ghost-load_count

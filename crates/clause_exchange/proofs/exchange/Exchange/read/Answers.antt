@@ -1,12 +1,13 @@
-use Rattle.std.proofs.Common.{◌+◌, ◌*◌, ◌<◌, set, length, ap, sym, ◌∙◌, subst, refl, arith}
-use Rattle.std.specs.Prelude.{slice_index}
+use Rattle.std.proofs.Common.{◌≢◌, ◌+◌, ◌*◌, ◌<◌, set, length, ap, sym, ◌∙◌, subst, refl, arith}
+use Rattle.std.specs.Prelude.{slice_index, All}
 use Rattle.std.proofs.lemmas.List.{get_or-set_same, get_or-set_other}
+use Rattle.cnf_problem.specs.Literals.{IsOver}
 use Rattle.clause_exchange.specs.declared.rule.View.{View}
 use Rattle.clause_exchange.specs.declared.counters.Counters.{Counters}
 use Rattle.clause_exchange.specs.Spelling.{entry_size}
 use Rattle.clause_exchange.specs.Seats.{SeatState, ExchangeId, IsTied, cell, exchange_of}
 use Rattle.clause_exchange.specs.Calls.{HasOne, after_read}
-use Rattle.clause_exchange.specs.Plays.{mine, row_of, with_loaded, with_row, with_part, IsAt}
+use Rattle.clause_exchange.specs.Steps.{mine, row_of, with_loaded, with_row, with_part, IsAt}
 use Rattle.clause_exchange.proofs.Tying.{one_number, one_tied, row_there, row_tied, tied_row, next_of, next_at, whole_read}
 use Rattle.clause_exchange.proofs.exchange.Exchange.read.Goals as goal
 
@@ -44,6 +45,7 @@ invariant_of-seat c =
     let same = sym (ap (λ (q : SeatState). q.view) c.seat.view_is) in
     let one = subst HasOne same c.requires.one in
     let inside = subst (λ (u : View). c.args.row < u.workers) same c.requires.row.0 in
+    let other = subst (λ (u : View). c.args.row ≢ (mine u).number) same c.requires.row.1 in
     let v = s.token.me.0 in
     let k = s.number in
     let t = c.seat.invariant.0 in
@@ -58,7 +60,7 @@ invariant_of-seat c =
     let d : Counters = record { owns = s.counters.owns; written = s.counters.written; looked = s.counters.looked; loaded = set s.counters.loaded (16 * k + c.args.row) words } in
     let wrote = get_or-set_same s.counters.loaded (16 * k + c.args.row) words 0 (let few = t.few in let b = within in let n = here in omega arith) in (
       subst (λ u. IsTied u k d) (sym told.view)
-          (tied_row v k s.counters t one d c.args.row (with_loaded r words) refl refl inside
+          (tied_row v k s.counters t one d c.args.row (with_loaded r words) refl refl inside other
           (λ i apart. (refl, get_or-set_other s.counters.loaded (16 * k + c.args.row) i words 0 apart))
           (record {
             looked_is = row.looked_is;
@@ -86,9 +88,14 @@ returns-clause-read c =
     let at = next_at r loaded (slice_index s.counters.looked (cell k c.args.row)) row.whole row.loaded_is row.looked_is c.if-loaded-seat.false in
     let words = told.loaded ∙ ap (λ m. m + entry_size (length h.lits)) row.loaded_is in (
       h,
-      subst (λ (u : View). IsAt (row_of (mine u) c.args.row) h 0) seen at,
-      told.ticket.0,
-      told.ticket.1,
-      told.lits,
+      record {
+        next = subst (λ (u : View). IsAt (row_of (mine u) c.args.row) h 0) seen at;
+        ticket = told.ticket.0;
+        worker = told.ticket.1;
+        len = told.len.0;
+        few = told.len.1;
+        lits = told.lits;
+        over = subst (λ (u : View). All (IsOver u.problem.vars) h.lits) seen told.over;
+      },
       told.view ∙ (ap (λ m. with_part v (with_row (mine v) c.args.row (with_loaded r m))) words ∙ ap (λ (u : View). after_read u c.args.row h) seen),
     )

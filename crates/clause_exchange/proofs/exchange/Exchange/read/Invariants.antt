@@ -1,4 +1,4 @@
-use Rattle.clause_exchange.specs.Plays.{mine, row_of}
+use Rattle.clause_exchange.specs.Steps.{mine, row_of}
 use Rattle.clause_exchange.proofs.Tying.{next_of}
 use Rattle.clause_exchange.proofs.exchange.Exchange.read.Given as goal
 

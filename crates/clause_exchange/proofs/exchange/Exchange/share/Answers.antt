@@ -7,7 +7,7 @@ use Rattle.clause_exchange.specs.declared.counters.Counters.{Counters}
 use Rattle.clause_exchange.specs.Spelling.{entry_size}
 use Rattle.clause_exchange.specs.Seats.{SeatState, ExchangeId, IsTied, exchange_of}
 use Rattle.clause_exchange.specs.Calls.{HasOne, IsLogged, after_share}
-use Rattle.clause_exchange.specs.Plays.{mine, IsOfLog}
+use Rattle.clause_exchange.specs.Steps.{mine, IsOfLog}
 use Rattle.clause_exchange.proofs.Tying.{one_number, one_tied, words_tied, tied_shared}
 use Rattle.clause_exchange.proofs.exchange.Exchange.share.Goals as goal
 

@@ -1,4 +1,4 @@
-use Rattle.clause_exchange.specs.Plays.{mine}
+use Rattle.clause_exchange.specs.Steps.{mine}
 use Rattle.clause_exchange.proofs.exchange.Exchange.share.Given as goal
 
 abbrev pub ghost-share_entry : goal.ghost-share_entry

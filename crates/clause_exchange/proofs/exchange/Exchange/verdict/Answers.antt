@@ -1,7 +1,7 @@
 use Rattle.std.proofs.Common.{ap, sym, ◌∙◌, subst}
 use Rattle.clause_exchange.specs.Seats.{SeatState, IsTied}
 use Rattle.clause_exchange.specs.Calls.{HasOne}
-use Rattle.clause_exchange.specs.Plays.{mine, seeing}
+use Rattle.clause_exchange.specs.Steps.{mine, seeing}
 use Rattle.clause_exchange.specs.Rule.{verdict_of}
 use Rattle.clause_exchange.proofs.Tying.{tied_same}
 use Rattle.clause_exchange.proofs.exchange.Exchange.verdict.Goals as goal

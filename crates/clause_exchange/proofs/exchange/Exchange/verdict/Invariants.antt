@@ -1,4 +1,4 @@
-use Rattle.clause_exchange.specs.Plays.{mine}
+use Rattle.clause_exchange.specs.Steps.{mine}
 use Rattle.clause_exchange.proofs.exchange.Exchange.verdict.Given as goal
 
 abbrev pub ghost-load_verdict : goal.ghost-load_verdict

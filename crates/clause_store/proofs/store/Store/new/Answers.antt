@@ -1,7 +1,7 @@
 use Rattle.std.proofs.Common.{[], take, ap, arith}
 use Rattle.trail_state.specs.Trails.{TrailView}
 use Rattle.clause_store.specs.Choosing.{IsChosen}
-use Rattle.clause_store.specs.Looking.{AreOver}
+use Rattle.clause_store.specs.NewWatch.{AreOver}
 use Rattle.clause_store.proofs.Adding.{added, chosen_within, clause_over, nothing_added, one_more}
 use Rattle.clause_store.proofs.store.Store.new.Goals.{After-get, After-choose}
 use Rattle.clause_store.proofs.store.Store.new.Goals as goal

@@ -1,6 +1,0 @@
-use Rattle.std.proofs.Common.{◌≡◌, [], ◌∷◌}
-use Rattle.cnf_problem.specs.Formulas.{true_lit}
-use Rattle.clause_exchange.proofs.tests.rows.eight_variables.Given as goal
-
-abbrev pub invariant-loop-made : goal.invariant-loop-made
-invariant-loop-made l = (l.gates.vars ≡ l._made) × (l.gates.clauses ≡ (true_lit ∷ []) ∷ [])

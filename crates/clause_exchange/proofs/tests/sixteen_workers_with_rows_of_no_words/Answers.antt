@@ -1,5 +1,0 @@
-use Rattle.clause_exchange.proofs.NewSeats.{has_all_new}
-use Rattle.clause_exchange.proofs.tests.sixteen_workers_with_rows_of_no_words.Goals as goal
-
-pub close-next-requires-clause-all : goal.close-next-requires-clause-all
-close-next-requires-clause-all g c = has_all_new _ 16 0 _ c.in_ok-exchange.ensures.view
