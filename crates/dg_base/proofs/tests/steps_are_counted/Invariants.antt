@@ -2,4 +2,4 @@
 use Rattle.dg_base.proofs.tests.steps_are_counted.Given as goal
 
 abbrev pub ghosts-take_two_steps : goal.ghosts-take_two_steps
-ghosts-take_two_steps g a = record { name = a.blank.name; parts = a.blank.parts }
+ghosts-take_two_steps a = record { name = a.blank.name; parts = a.blank.parts }
