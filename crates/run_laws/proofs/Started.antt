@@ -1,6 +1,7 @@
 -- The started functions of a checked program are those that its check has counted.
 use Rattle.std.proofs.Common.{◌≡◌, ℕ, zero, suc, ◌+◌, ◌*◌, ◌^◌, ◌<◌, ◌≤◌, List, [], ◌∷◌, Option, Some, None, length, refl, sym, ap, ◌∙◌, subst, arith}
 use Rattle.std.specs.Prelude.{slice_get, Contains}
+use Rattle.std.proofs.Math.Nat.{pow-suc, pow-le-pow_right}
 use Rattle.std.proofs.lemmas.Option.{slice_get-get_or}
 use Rattle.axiom_model.specs.declared.Action.{Action}
 use Rattle.axiom_model.specs.declared.Action.TheVariants.{Create}
@@ -72,16 +73,13 @@ module _ (p : Checked) (checked : IsChecked p) where
   -- ---- handles
 
   one_more_digit : (own n d : ℕ) → own < 64 ^ d → n < 63 → 64 * own + n + 1 < 64 ^ suc d
-  one_more_digit own n d low few =
-      let power : 64 ^ suc d ≡ 64 ^ d * 64 = refl in
-      omega (arith, power)
+  one_more_digit own n d low few = omega (arith, pow-suc 64 d)
 
   below_all : (d h : ℕ) → d ≤ 4 → h < 64 ^ d → h < 2 ^ 24
-  below_all 0 h low e = omega arith
-  below_all 1 h low e = omega arith
-  below_all 2 h low e = omega arith
-  below_all 3 h low e = omega arith
-  below_all 4 h low e = e
+  below_all d h low e =
+      let top : 64 ^ d ≤ 64 ^ 4 = pow-le-pow_right (omega arith) low in
+      let same : 64 ^ 4 ≡ 2 ^ 24 = refl in
+      omega (arith, top, same)
 
   pub started_handles_low : (d f handle arg : ℕ) (script : List ℕ) (r : Run) → IsStarted p d f → handle < 64 ^ d → thread_run p f handle arg script ≡ Some r
       → (h g v : ℕ) → Contains r.actions (Create h g v) → (h < 64 ^ suc d) × (h < 2 ^ 24)

@@ -146,7 +146,7 @@ module _ (p : Checked) (handle least d : ℕ) (typed : IsTyped p.program) where
       → run_in (outcome_of g o arg script) ≡ Some r → Few (counts_for p (suc m) f).creates r
   run_few_at m f arg script r None found low kept e = absurd (let no : ◌≡◌ {A = Option Run} None (Some r) = e in cc)
   run_few_at m f arg script r (Some h) found low kept e =
-      outcome_few (counts_for p (suc m) f).creates script (thread_steps g h arg (begins script)) r ((thread_limited m f h arg low found most).adds (begins script)) e
+      outcome_few (counts_for p (suc m) f).creates script (thread_steps g h arg (begins script)) r ((thread_limited m f h arg low found kept).adds (begins script)) e
 
   -- the same for its run
   pub run_few : (m f arg : ℕ) (script : List ℕ) (r : Run) → least + length g.functions ≤ m → Kept (counts_for p (suc m) f) → thread_run p f handle arg script ≡ Some r → Few (counts_for p (suc m) f).creates r
