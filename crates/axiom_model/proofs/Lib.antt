@@ -5,6 +5,8 @@ pub mod Turning
 pub mod Walking
 pub mod Acceptance
 pub mod Weaker
+pub mod Permuted
+pub mod Reordered
 pub mod Blocks
 pub mod Each
 pub mod PairTests

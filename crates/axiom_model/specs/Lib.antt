@@ -4,6 +4,7 @@ pub mod WellMade
 pub mod Models
 pub mod Orders
 pub mod Failing
+pub mod Reordered
 pub mod Outcomes
 pub mod Sorting
 pub mod Walking

@@ -5,11 +5,15 @@ ghost use Rattle.axiom_model.specs.declared.MemoryModel.{MemoryModel};
 ghost use Rattle.axiom_model.specs.declared.MemoryModel.TheVariants.{Sc, Tso, Pso};
 ghost use Rattle.axiom_model.specs.declared.Action.{Action};
 ghost use Rattle.axiom_model.specs.declared.Event.{Event};
+ghost use Rattle.axiom_model.specs.declared.Candidate.{Candidate};
 ghost use Rattle.axiom_model.specs.Cycles.{NoCycle};
 ghost use Rattle.axiom_model.specs.Execution.{Execution, cell_of, SameBlock};
 ghost use Rattle.axiom_model.specs.Models.{keeps, LocalEdge, GlobalEdge, Leaves, Consistent};
 ghost use Rattle.axiom_model.specs.Orders.{Forward, BetweenBlocks, OneInEachBlock, Accept};
 ghost use Rattle.axiom_model.specs.Sorting.{HasEdge, NoRepeats, GoesForward};
+ghost use Rattle.axiom_model.specs.WellMade.{Shape, WellMade};
+ghost use Rattle.axiom_model.specs.Failing.{Runs, AllowedExecution, FailingExecution};
+ghost use Rattle.axiom_model.specs.Reordered.{Reordered, ReorderedCandidate};
 
 /// An order in which every edge goes forward excludes every cycle: of events for the local and for
 /// the global condition, and of blocks.
@@ -52,4 +56,16 @@ pub fn full_fences_are_kept()
 pub fn weaker_models_allow_more()
     ensures tso { (x : Execution) → Consistent Sc x → Consistent Tso x }
     ensures pso { (x : Execution) → Consistent Tso x → Consistent Pso x }
+{}
+
+/// Nothing depends on the order of the pairs of reads and sources: of an execution whether it is well
+/// made and whether it is consistent, of a candidate whether a model allows it and whether it fails,
+/// over any meaning of a thread's run.
+pub fn order_of_reads_is_free()
+    ensures well_made { (s : Shape) (x y : Execution) → Reordered x y → WellMade s x → WellMade s y }
+    ensures consistent { (m : MemoryModel) (x y : Execution) → Reordered x y → Consistent m x → Consistent m y }
+    ensures allowed { (s : Shape) (runs : Runs) (m : MemoryModel) (c d : Candidate)
+        → ReorderedCandidate c d → AllowedExecution s runs m c → AllowedExecution s runs m d }
+    ensures failing { (s : Shape) (runs : Runs) (m : MemoryModel) (c d : Candidate)
+        → ReorderedCandidate c d → FailingExecution s runs m c → FailingExecution s runs m d }
 {}

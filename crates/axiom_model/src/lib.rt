@@ -39,7 +39,8 @@ use dg_base::List;
 pub use graph::acyclic;
 pub use laws::{
     accepted_is_consistent, blocks_are_an_equivalence, forward_lists_exclude_cycles,
-    forward_orders_exclude_cycles, full_fences_are_kept, weaker_models_allow_more,
+    forward_orders_exclude_cycles, full_fences_are_kept, order_of_reads_is_free,
+    weaker_models_allow_more,
 };
 pub use outcomes::{
     fenced_store_buffering, independent_reads, load_buffering, message_passing, open_section,
@@ -113,8 +114,9 @@ pub enum Action {
     End,
 }
 
-/// An event of an execution.
-#[derive(Debug, Clone, Copy, PartialEq, Eq, Drop)]
+/// An event of an execution. In order stand the initial writes first, then the actions by their
+/// threads' handles, and those of a thread by their indices.
+#[derive(Debug, Clone, Copy, PartialEq, Eq, PartialOrd, Ord, Drop)]
 pub enum Event {
     /// The initial writes of all cells, as one event of no thread.
     Initial,

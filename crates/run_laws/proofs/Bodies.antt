@@ -27,7 +27,7 @@ use Rattle.c_rules.specs.Scopes.{First, first_of, rule_walk, is_mutex}
 use Rattle.c_rules.specs.Types.{broken_in, broken_size, broken_value, broken_start, broken_declarator, is_start_in, is_mutex_start, typed_rules}
 use Rattle.c_check.specs.declared.counts.Counts.{Counts}
 use Rattle.c_check.specs.Limits.{cell_count}
-use Rattle.c_check.specs.Counts.{exact, counts_in, counts_in_all, counts_at_start, weighed, counts_walk}
+use Rattle.c_check.specs.Counts.{exact, no_counts, counts_in, counts_in_all, counts_at_start, weighed, counts_walk}
 use Rattle.run_model.specs.declared.state.Local.{Local}
 use Rattle.run_model.specs.declared.state.Flow.{Flow}
 use Rattle.run_model.specs.declared.state.Flow.TheVariants.{Next, Broke, Continued, Returned}
@@ -44,7 +44,7 @@ use Rattle.run_model.proofs.Kept.{kept_spend, kept_begin, kept_finish_section, k
 use Rattle.run_model.proofs.Handles.{Numbers, numbers_keeps}
 use Rattle.run_laws.proofs.Growing.{Within, within_more, within_then, within_cond, within_pure, within_look, within_locals, within_none}
 use Rattle.run_laws.proofs.Meanings.{Limited, limited_lvalue, behind, before, writes}
-use Rattle.run_laws.proofs.Expressions.{both_none, left_of, right_of, Bounds, eval_limited}
+use Rattle.run_laws.proofs.Expressions.{both_none, Bound, Low, left_of, right_of, Bounds, eval_limited}
 use Rattle.run_laws.proofs.Loops.{loop_within, do_loop_within}
 
 -- ---- scopes
@@ -72,7 +72,7 @@ same_behind {M = M} {N = N} v w =
     ind-Stmt (λ t. (s : Scope) → (walk v t).behind s ≡ (walk w t).behind s) (λ z y is s.
     ap (λ (x : Walked M). x.behind s) (fold-roll-Stmt (Walked M) (walk_step v) z) ∙ behind_layer v w z s ∙ sym (ap (λ (x : Walked N). x.behind s) (fold-roll-Stmt (Walked N) (walk_step w) z)))
 
-module _ (q : ℕ → Type 0) (top : ℕ) (cx : Context) (body : Name → Counts) (bounds : Bounds q top cx body) where
+module _ (q : ℕ → Type 0) (top : Bound) (cx : Context) (body : Name → Counts) (bounds : Bounds q top cx body) where
   abbrev pub counted : Walk Counts
   counted = counts_walk exact cx.setting.turns body
 
@@ -84,23 +84,23 @@ module _ (q : ℕ → Type 0) (top : ℕ) (cx : Context) (body : Name → Counts
 
   -- ---- expressions in their scopes
 
-  evals : (s : Scope) (x : Expr) (r : Role) → broken_in (means s) x r ≡ None → (counts_in exact body s x).most ≤ top → Within q (counts_in exact body s x).creates ℕ (eval cx x)
+  evals : (s : Scope) (x : Expr) (r : Role) → broken_in (means s) x r ≡ None → Low top (counts_in exact body s x) → Within q (counts_in exact body s x).creates ℕ (eval cx x)
   evals s x r e h = eval_limited q top cx body bounds s x r e h
 
-  weighs : (s : Scope) (x : Expr) → broken_in (means s) x role.Value ≡ None → (weighed exact body s x).most ≤ top → Within q (weighed exact body s x).creates ℕ (eval cx x)
+  weighs : (s : Scope) (x : Expr) → broken_in (means s) x role.Value ≡ None → Low top (weighed exact body s x) → Within q (weighed exact body s x).creates ℕ (eval cx x)
   weighs s x e h =
       within_more q (counts_in exact body s x).creates (weighed exact body s x).creates ℕ (eval cx x) (omega arith)
-      (evals s x role.Value e (right_of 0 (counts_in exact body s x).most top h))
+      (evals s x role.Value e (right_of no_counts (counts_in exact body s x) top h))
 
-  test_within : (o : Option Expr) (s : Scope) → found_test typed o s ≡ None → (found_test counted o s).most ≤ top → Within q (found_test counted o s).creates ℕ (eval_if cx 1 o)
+  test_within : (o : Option Expr) (s : Scope) → found_test typed o s ≡ None → Low top (found_test counted o s) → Within q (found_test counted o s).creates ℕ (eval_if cx 1 o)
   test_within None s e h = within_pure q 0 ℕ 1
   test_within (Some x) s e h = weighs s x e h
 
-  value_within : (o : Option Expr) (s : Scope) → found_value typed o s ≡ None → (found_value counted o s).most ≤ top → Within q (found_value counted o s).creates ℕ (eval_if cx 0 o)
+  value_within : (o : Option Expr) (s : Scope) → found_value typed o s ≡ None → Low top (found_value counted o s) → Within q (found_value counted o s).creates ℕ (eval_if cx 0 o)
   value_within None s e h = within_pure q 0 ℕ 0
   value_within (Some x) s e h = evals s x role.Value e h
 
-  returned_within : (p : Place) (o : Option Expr) (s : Scope) → found_returned typed p o s ≡ None → (found_returned counted p o s).most ≤ top → Within q (found_returned counted p o s).creates ℕ (eval_if cx 0 o)
+  returned_within : (p : Place) (o : Option Expr) (s : Scope) → found_returned typed p o s ≡ None → Low top (found_returned counted p o s) → Within q (found_returned counted p o s).creates ℕ (eval_if cx 0 o)
   returned_within p None s e h = within_pure q 0 ℕ 0
   returned_within p (Some x) s e h = weighs s x (both_none (broken_in (means s) x role.Value) _ e).0 h
 
@@ -119,13 +119,13 @@ module _ (q : ℕ → Type 0) (top : ℕ) (cx : Context) (body : Name → Counts
       subst (λ (y : Expr). Within q n ℕ (eval cx y)) (roll-out-Expr x)
       (subst (λ (m : Meaning). Within q n ℕ m.run) (sym (fold-roll-Expr Meaning (expr_step cx) (out-Expr x))) (start_layer n (out-Expr x) e))
 
-  first_within_at : (s : Scope) (w : TypeWord) (x : Expr) (t : Bool) → (is_mutex w && is_mutex_start x) ≡ t → cond t None (broken_in (means s) x role.Value) ≡ None → (counts_in exact body s x).most ≤ top
+  first_within_at : (s : Scope) (w : TypeWord) (x : Expr) (t : Bool) → (is_mutex w && is_mutex_start x) ≡ t → cond t None (broken_in (means s) x role.Value) ≡ None → Low top (counts_in exact body s x)
       → Within q (counts_in exact body s x).creates ℕ (eval cx x)
   first_within_at s w x true is e h = mutex_start_within (counts_in exact body s x).creates x (and_parts (is_mutex w) (is_mutex_start x) is).1
   first_within_at s w x false is e h = evals s x role.Value e h
 
   -- a value that a variable begins with
-  first_within : (s : Scope) (w : TypeWord) (x : Expr) → broken_value (means s) w x ≡ None → (counts_in exact body s x).most ≤ top → Within q (counts_in exact body s x).creates ℕ (eval cx x)
+  first_within : (s : Scope) (w : TypeWord) (x : Expr) → broken_value (means s) w x ≡ None → Low top (counts_in exact body s x) → Within q (counts_in exact body s x).creates ℕ (eval cx x)
   first_within s w x e h = first_within_at s w x (is_mutex w && is_mutex_start x) refl e h
 
   store_within : (a c n l j : ℕ) (m : Step ℕ) (rest : Step (Unit {0})) → a + c ≤ n → Within q a ℕ m → Within q c (Unit {0}) rest → Within q n (Unit {0}) (m >>= (λ v. write (Own l j) v >> rest))
@@ -138,16 +138,16 @@ module _ (q : ℕ → Type 0) (top : ℕ) (cx : Context) (body : Name → Counts
       store_within 0 0 0 l j (take_number Any) (store_from l (j + 1) (replicate n (take_number Any))) (omega arith)
       (within_none q 0 ℕ (take_number Any) (λ own. (numbers_keeps own).of_taking Any)) (store_taken_within l (j + 1) n)
 
-  store_all_within : (s : Scope) (w : TypeWord) (l j : ℕ) (xs : List Expr) → first_of (map (broken_value (means s) w) xs) ≡ None → (counts_in_all exact body s xs).most ≤ top
+  store_all_within : (s : Scope) (w : TypeWord) (l j : ℕ) (xs : List Expr) → first_of (map (broken_value (means s) w) xs) ≡ None → Low top (counts_in_all exact body s xs)
       → Within q (counts_in_all exact body s xs).creates (Unit {0}) (store_from l j (map (eval cx) xs))
   store_all_within s w l j [] e h = within_pure q 0 (Unit {0}) tt
   store_all_within s w l j (x ∷ xs) e h =
       let parts = both_none (broken_value (means s) w x) (first_of (map (broken_value (means s) w) xs)) e in
       store_within (counts_in exact body s x).creates (counts_in_all exact body s xs).creates (counts_in_all exact body s (x ∷ xs)).creates l j (eval cx x) (store_from l (j + 1) (map (eval cx) xs)) (omega arith)
-      (first_within s w x parts.0 (left_of (counts_in exact body s x).most (counts_in_all exact body s xs).most top h))
-      (store_all_within s w l (j + 1) xs parts.1 (right_of (counts_in exact body s x).most (counts_in_all exact body s xs).most top h))
+      (first_within s w x parts.0 (left_of (counts_in exact body s x) (counts_in_all exact body s xs) top h))
+      (store_all_within s w l (j + 1) xs parts.1 (right_of (counts_in exact body s x) (counts_in_all exact body s xs) top h))
 
-  begins_within : (s : Scope) (l : ℕ) (w : TypeWord) (n : ℕ) (o : Option Initialiser) → broken_start (means s) w o ≡ None → (counts_at_start exact body s o).most ≤ top
+  begins_within : (s : Scope) (l : ℕ) (w : TypeWord) (n : ℕ) (o : Option Initialiser) → broken_start (means s) w o ≡ None → Low top (counts_at_start exact body s o)
       → Within q (counts_at_start exact body s o).creates (Unit {0}) (store_from l 0 (first_values cx w n o))
   begins_within s l type.Thread n None e h = within_pure q 0 (Unit {0}) tt
   begins_within s l type.Int n None e h = store_taken_within l 0 n
@@ -158,12 +158,12 @@ module _ (q : ℕ → Type 0) (top : ℕ) (cx : Context) (body : Name → Counts
   begins_within s l type.Cond n None e h = store_taken_within l 0 n
   begins_within s l w n (Some (One x)) e h =
       store_within (counts_in exact body s x).creates 0 (counts_at_start exact body s (Some (One x))).creates l 0 (eval cx x) nothing (omega arith)
-      (first_within s w x e (right_of 0 (counts_in exact body s x).most top h)) (within_pure q 0 (Unit {0}) tt)
+      (first_within s w x e (right_of no_counts (counts_in exact body s x) top h)) (within_pure q 0 (Unit {0}) tt)
   begins_within s l w n (Some (Braces xs)) e h =
       within_more q (counts_in_all exact body s xs).creates (counts_at_start exact body s (Some (Braces xs))).creates (Unit {0}) (store_from l 0 (map (eval cx) xs)) (omega arith)
-      (store_all_within s w l 0 xs e (right_of 0 (counts_in_all exact body s xs).most top h))
+      (store_all_within s w l 0 xs e (right_of no_counts (counts_in_all exact body s xs) top h))
 
-  declare_one_within : (s : Scope) (w : TypeWord) (d : Declarator) → broken_declarator cx.setting.functions s w d ≡ None → (counts_at_start exact body (declare w d s) d.initialiser).most ≤ top
+  declare_one_within : (s : Scope) (w : TypeWord) (d : Declarator) → broken_declarator cx.setting.functions s w d ≡ None → Low top (counts_at_start exact body (declare w d s) d.initialiser)
       → Within q (counts_at_start exact body (declare w d s) d.initialiser).creates (Unit {0}) (declare_one cx w d)
   declare_one_within s w d e h =
       let n : ℕ = (counts_at_start exact body (declare w d s) d.initialiser).creates in
@@ -173,16 +173,16 @@ module _ (q : ℕ → Type 0) (top : ℕ) (cx : Context) (body : Name → Counts
       (within_locals q 0 (λ ls. ls ++ record { name = d.name; unsigned = word_unsigned w; cells = replicate (cell_count d) 0 } ∷ []))
       (λ _. begins_within (declare w d s) l w (cell_count d) d.initialiser (both_none (broken_start (means (declare w d s)) w d.initialiser) _ rest).0 h))
 
-  declares_within : (w : TypeWord) (ds : List Declarator) (s : Scope) → declarators typed w ds s ≡ None → (declarators counted w ds s).most ≤ top → Within q (declarators counted w ds s).creates (Unit {0}) (declare_all cx w ds)
+  declares_within : (w : TypeWord) (ds : List Declarator) (s : Scope) → declarators typed w ds s ≡ None → Low top (declarators counted w ds s) → Within q (declarators counted w ds s).creates (Unit {0}) (declare_all cx w ds)
   declares_within w [] s e h = within_pure q 0 (Unit {0}) tt
   declares_within w (d ∷ ds) s e h =
       let one : Counts = counts_at_start exact body (declare w d s) d.initialiser in
       let rest : Counts = declarators counted w ds (declare w d s) in
       let parts = both_none (broken_declarator cx.setting.functions s w d) (declarators typed w ds (declare w d s)) e in
       within_then q one.creates rest.creates (one.creates + rest.creates) (Unit {0}) (Unit {0}) (declare_one cx w d) (λ _. declare_all cx w ds) (omega arith)
-      (declare_one_within s w d parts.0 (left_of one.most rest.most top h)) (λ _. declares_within w ds (declare w d s) parts.1 (right_of one.most rest.most top h))
+      (declare_one_within s w d parts.0 (left_of one rest top h)) (λ _. declares_within w ds (declare w d s) parts.1 (right_of one rest top h))
 
-  start_within : (t : Start) (s : Scope) → found_start typed t s ≡ None → (found_start counted t s).most ≤ top → Within q (found_start counted t s).creates (Unit {0}) (begin_for cx t)
+  start_within : (t : Start) (s : Scope) → found_start typed t s ≡ None → Low top (found_start counted t s) → Within q (found_start counted t s).creates (Unit {0}) (begin_for cx t)
   start_within start.Nothing s e h = within_pure q 0 (Unit {0}) tt
   start_within (start.Expr x) s e h = behind q (counts_in exact body s x).creates ℕ (Unit {0}) (eval cx x) (λ _. nothing) (evals s x role.Value e h) (λ _. within_pure q 0 (Unit {0}) tt)
   start_within (start.Declare d) s e h = declares_within d.word d.declarators s e h
@@ -198,7 +198,7 @@ module _ (q : ℕ → Type 0) (top : ℕ) (cx : Context) (body : Name → Counts
   spent_within : (p : Place) → Within q 0 Flow (spend cx.setting p)
   spent_within p = within_none q 0 Flow (spend cx.setting p) (λ own. kept_spend own (Numbers own) (numbers_keeps own) Flow cx.setting p)
 
-  turns_within : (p : Place) (t e : Option Expr) (m : Step Flow) (s : Scope) (n : ℕ) → found_test typed t s ≡ None → found_value typed e s ≡ None → (found_test counted t s).most ≤ top → (found_value counted e s).most ≤ top → Within q n Flow m
+  turns_within : (p : Place) (t e : Option Expr) (m : Step Flow) (s : Scope) (n : ℕ) → found_test typed t s ≡ None → found_value typed e s ≡ None → Low top (found_test counted t s) → Low top (found_value counted e s) → Within q n Flow m
       → Within q ((cx.setting.turns + 1) * (found_test counted t s).creates + (cx.setting.turns * (found_value counted e s).creates + cx.setting.turns * n)) Flow (turns cx p t e m)
   turns_within p t e m s n a b c d h =
       loop_within q (spend cx.setting p) (spent_within p) (found_test counted t s).creates n (found_value counted e s).creates cx.setting.turns (eval_if cx 1 t) (scoped m) (eval_if cx 0 e >> nothing) (test_within t s a c) (scoped_within n m h)
@@ -212,7 +212,7 @@ module _ (q : ℕ → Type 0) (top : ℕ) (cx : Context) (body : Name → Counts
 
   -- where nothing is broken and no thread below creates too many
   abbrev IsLimited : Stmt → Type 0
-  IsLimited t = (s : Scope) → (walk typed t).found s ≡ None → ((walk counted t).found s).most ≤ top → Within q ((walk counted t).found s).creates Flow (execute cx t)
+  IsLimited t = (s : Scope) → (walk typed t).found s ≡ None → Low top ((walk counted t).found s) → Within q ((walk counted t).found s).creates Flow (execute cx t)
 
   abbrev Piece : Type 0
   Piece = (t : Stmt) × IsLimited t
@@ -223,7 +223,7 @@ module _ (q : ℕ → Type 0) (top : ℕ) (cx : Context) (body : Name → Counts
   abbrev sum : List Stmt → Scope → Counts
   sum ts s = in_turn counted (map (walk counted) ts) s
 
-  sequence_within : (ys : List Piece) (s : Scope) → in_turn typed (map (walk typed) (stmts ys)) s ≡ None → (sum (stmts ys) s).most ≤ top → Within q (sum (stmts ys) s).creates Flow (execute_all cx (stmts ys))
+  sequence_within : (ys : List Piece) (s : Scope) → in_turn typed (map (walk typed) (stmts ys)) s ≡ None → Low top (sum (stmts ys) s) → Within q (sum (stmts ys) s).creates Flow (execute_all cx (stmts ys))
   sequence_within [] s e h = within_pure q 0 Flow Next
   sequence_within (y ∷ ys) s e h =
       let one : Counts = (walk counted y.0).found s in
@@ -233,16 +233,16 @@ module _ (q : ℕ → Type 0) (top : ℕ) (cx : Context) (body : Name → Counts
       let later : in_turn typed (map (walk typed) (stmts ys)) after ≡ None =
       subst (λ (u : Scope). in_turn typed (map (walk typed) (stmts ys)) u ≡ None) (same_behind typed counted y.0 s) parts.1 in
       within_then q one.creates rest.creates (one.creates + rest.creates) Flow Flow (execute cx y.0) (λ f. then_next f (execute_all cx (stmts ys))) (omega arith)
-      (y.1 s parts.0 (left_of one.most rest.most top h)) (λ f. next_within rest.creates f (execute_all cx (stmts ys)) (sequence_within ys after later (right_of one.most rest.most top h)))
+      (y.1 s parts.0 (left_of one rest top h)) (λ f. next_within rest.creates f (execute_all cx (stmts ys)) (sequence_within ys after later (right_of one rest top h)))
 
   abbrev kids : Stmt-F Piece → Stmt-F Stmt
   kids y = map-Stmt Piece Stmt (λ e. e.0) y
 
   abbrev FormLimited : Stmt-F Stmt → Type 0
-  FormLimited z = (s : Scope) → (walk_step typed (map-Stmt Stmt (Walked First) (walk typed) z)).found s ≡ None → ((walk_step counted (map-Stmt Stmt (Walked Counts) (walk counted) z)).found s).most ≤ top
+  FormLimited z = (s : Scope) → (walk_step typed (map-Stmt Stmt (Walked First) (walk typed) z)).found s ≡ None → Low top ((walk_step counted (map-Stmt Stmt (Walked Counts) (walk counted) z)).found s)
       → Within q ((walk_step counted (map-Stmt Stmt (Walked Counts) (walk counted) z)).found s).creates Flow (stmt_step cx (map-Stmt Stmt (Step Flow) (execute cx) z))
 
-  test_first : (t : Expr) (s : Scope) (n : ℕ) (f : ℕ → Step Flow) → broken_in (means s) t role.Value ≡ None → (weighed exact body s t).most ≤ top → ((v : ℕ) → Within q n Flow (f v)) → Within q ((weighed exact body s t).creates + n) Flow (eval cx t >>= f)
+  test_first : (t : Expr) (s : Scope) (n : ℕ) (f : ℕ → Step Flow) → broken_in (means s) t role.Value ≡ None → Low top (weighed exact body s t) → ((v : ℕ) → Within q n Flow (f v)) → Within q ((weighed exact body s t).creates + n) Flow (eval cx t >>= f)
   test_first t s n f e h k = within_then q (weighed exact body s t).creates n ((weighed exact body s t).creates + n) ℕ Flow (eval cx t) f (omega arith) (weighs s t e h) k
 
   form : (y : Stmt-F Piece) → FormLimited (kids y)
@@ -256,10 +256,10 @@ module _ (q : ℕ → Type 0) (top : ℕ) (cx : Context) (body : Name → Counts
       let test : Counts = weighed exact body s t in
       let yes : Counts = (walk counted y.0).found s in
       let parts = both_none (broken_in (means s) t role.Value) (or_else ((walk typed y.0).found s) None) e in
-      let rest : max yes.most 0 ≤ top = right_of test.most (max yes.most 0) top h in
-      test_first t s (yes.creates + 0) _ parts.0 (left_of test.most (max yes.most 0) top h) (λ v.
+      let rest : Low top (exact.together yes no_counts) = right_of test (exact.together yes no_counts) top h in
+      test_first t s (yes.creates + 0) _ parts.0 (left_of test (exact.together yes no_counts) top h) (λ v.
       within_cond q (yes.creates + 0) Flow (is_true v) (scoped (execute cx y.0)) (pure Next)
-      (within_more q yes.creates (yes.creates + 0) Flow (scoped (execute cx y.0)) (omega arith) (scoped_within yes.creates (execute cx y.0) (y.1 s (both_none ((walk typed y.0).found s) None parts.1).0 (left_of yes.most 0 top rest))))
+      (within_more q yes.creates (yes.creates + 0) Flow (scoped (execute cx y.0)) (omega arith) (scoped_within yes.creates (execute cx y.0) (y.1 s (both_none ((walk typed y.0).found s) None parts.1).0 (left_of yes no_counts top rest))))
       (within_pure q (yes.creates + 0) Flow Next))
   form (Stmt-F.If p t y (Some z)) s e h =
       let test : Counts = weighed exact body s t in
@@ -267,24 +267,24 @@ module _ (q : ℕ → Type 0) (top : ℕ) (cx : Context) (body : Name → Counts
       let no : Counts = (walk counted z.0).found s in
       let parts = both_none (broken_in (means s) t role.Value) (or_else ((walk typed y.0).found s) ((walk typed z.0).found s)) e in
       let both = both_none ((walk typed y.0).found s) ((walk typed z.0).found s) parts.1 in
-      let rest : max yes.most no.most ≤ top = right_of test.most (max yes.most no.most) top h in
-      test_first t s (yes.creates + no.creates) _ parts.0 (left_of test.most (max yes.most no.most) top h) (λ v.
+      let rest : Low top (exact.together yes no) = right_of test (exact.together yes no) top h in
+      test_first t s (yes.creates + no.creates) _ parts.0 (left_of test (exact.together yes no) top h) (λ v.
       within_cond q (yes.creates + no.creates) Flow (is_true v) (scoped (execute cx y.0)) (scoped (execute cx z.0))
-      (within_more q yes.creates (yes.creates + no.creates) Flow (scoped (execute cx y.0)) (omega arith) (scoped_within yes.creates (execute cx y.0) (y.1 s both.0 (left_of yes.most no.most top rest))))
-      (within_more q no.creates (yes.creates + no.creates) Flow (scoped (execute cx z.0)) (omega arith) (scoped_within no.creates (execute cx z.0) (z.1 s both.1 (right_of yes.most no.most top rest)))))
+      (within_more q yes.creates (yes.creates + no.creates) Flow (scoped (execute cx y.0)) (omega arith) (scoped_within yes.creates (execute cx y.0) (y.1 s both.0 (left_of yes no top rest))))
+      (within_more q no.creates (yes.creates + no.creates) Flow (scoped (execute cx z.0)) (omega arith) (scoped_within no.creates (execute cx z.0) (z.1 s both.1 (right_of yes no top rest)))))
   form (Stmt-F.While p t y) s e h =
       let k : ℕ = cx.setting.turns in
       let test : Counts = weighed exact body s t in
       let turn : Counts = (walk counted y.0).found (loop_in s) in
       let parts = both_none (broken_in (means s) t role.Value) ((walk typed y.0).found (loop_in s)) e in
       within_more q ((k + 1) * test.creates + (k * 0 + k * turn.creates)) ((k + 1) * test.creates + k * turn.creates) Flow (turns cx p (Some t) None (execute cx y.0)) (omega arith)
-      (turns_within p (Some t) None (execute cx y.0) s turn.creates parts.0 refl (left_of test.most turn.most top h) (omega arith) (y.1 (loop_in s) parts.1 (right_of test.most turn.most top h)))
+      (turns_within p (Some t) None (execute cx y.0) s turn.creates parts.0 refl (left_of test turn top h) (omega arith, omega arith) (y.1 (loop_in s) parts.1 (right_of test turn top h)))
   form (Stmt-F.DoWhile p y t) s e h =
       let test : Counts = weighed exact body s t in
       let turn : Counts = (walk counted y.0).found (loop_in s) in
       let parts = both_none ((walk typed y.0).found (loop_in s)) (broken_in (means s) t role.Value) e in
-      do_loop_within q (spend cx.setting p) (spent_within p) test.creates turn.creates cx.setting.turns (eval cx t) (scoped (execute cx y.0)) (weighs s t parts.1 (right_of turn.most test.most top h))
-      (scoped_within turn.creates (execute cx y.0) (y.1 (loop_in s) parts.0 (left_of turn.most test.most top h)))
+      do_loop_within q (spend cx.setting p) (spent_within p) test.creates turn.creates cx.setting.turns (eval cx t) (scoped (execute cx y.0)) (weighs s t parts.1 (right_of turn test top h))
+      (scoped_within turn.creates (execute cx y.0) (y.1 (loop_in s) parts.0 (left_of turn test top h)))
   form (Stmt-F.For p first t x y) s e h =
       let k : ℕ = cx.setting.turns in
       let inside : Scope = behind_start first (enter s) in
@@ -296,13 +296,13 @@ module _ (q : ℕ → Type 0) (top : ℕ) (cx : Context) (body : Name → Counts
       let parts = both_none (found_start typed first (enter s)) (or_else (found_test typed t inside) (or_else (found_value typed x inside) ((walk typed y.0).found (loop_in inside)))) e in
       let rest = both_none (found_test typed t inside) (or_else (found_value typed x inside) ((walk typed y.0).found (loop_in inside))) parts.1 in
       let last = both_none (found_value typed x inside) ((walk typed y.0).found (loop_in inside)) rest.1 in
-      let most : max test.most (max step.most turn.most) ≤ top = right_of begun.most (max test.most (max step.most turn.most)) top h in
-      let least : max step.most turn.most ≤ top = right_of test.most (max step.most turn.most) top most in
+      let most : Low top (exact.together test (exact.together step turn)) = right_of begun (exact.together test (exact.together step turn)) top h in
+      let least : Low top (exact.together step turn) = right_of test (exact.together step turn) top most in
       scoped_within (begun.creates + all) (begin_for cx first >> turns cx p t x (execute cx y.0))
       (within_then q begun.creates all (begun.creates + all) (Unit {0}) Flow (begin_for cx first) (λ _. turns cx p t x (execute cx y.0)) (omega arith)
-      (start_within first (enter s) parts.0 (left_of begun.most (max test.most (max step.most turn.most)) top h))
-      (λ _. turns_within p t x (execute cx y.0) inside turn.creates rest.0 last.0 (left_of test.most (max step.most turn.most) top most) (left_of step.most turn.most top least)
-      (y.1 (loop_in inside) last.1 (right_of step.most turn.most top least))))
+      (start_within first (enter s) parts.0 (left_of begun (exact.together test (exact.together step turn)) top h))
+      (λ _. turns_within p t x (execute cx y.0) inside turn.creates rest.0 last.0 (left_of test (exact.together step turn) top most) (left_of step turn top least)
+      (y.1 (loop_in inside) last.1 (right_of step turn top least))))
   form (Stmt-F.Return p x) s e h =
       behind q (found_returned counted p x s).creates ℕ Flow (eval_if cx 0 x) (λ v. pure (Returned v)) (returned_within p x s e h) (λ v. within_pure q 0 Flow (Returned v))
   form (Stmt-F.Break p) s e h = within_pure q 0 Flow Broke
@@ -313,7 +313,7 @@ module _ (q : ℕ → Type 0) (top : ℕ) (cx : Context) (body : Name → Counts
       let count_is : (walk counted (roll-Stmt z)).found s ≡ (walk_step counted (map-Stmt Stmt (Walked Counts) (walk counted) z)).found s =
       ap (λ (w : Walked Counts). w.found s) (fold-roll-Stmt (Walked Counts) (walk_step counted) z)
       in
-      let it = f s (sym (ap (λ (w : Walked First). w.found s) (fold-roll-Stmt (Walked First) (walk_step typed) z)) ∙ e) (subst (λ (c : Counts). c.most ≤ top) count_is h) in
+      let it = f s (sym (ap (λ (w : Walked First). w.found s) (fold-roll-Stmt (Walked First) (walk_step typed) z)) ∙ e) (subst (λ (c : Counts). Low top c) count_is h) in
       subst (λ (m : Step Flow). Within q ((walk counted (roll-Stmt z)).found s).creates Flow m) (sym (fold-roll-Stmt (Step Flow) (stmt_step cx) z))
       (subst (λ (c : Counts). Within q c.creates Flow (stmt_step cx (map-Stmt Stmt (Step Flow) (execute cx) z))) (sym count_is) it)
 
@@ -331,14 +331,14 @@ module _ (q : ℕ → Type 0) (top : ℕ) (cx : Context) (body : Name → Counts
   pieces_are (t ∷ ts) = ap (λ (l : List Stmt). t ∷ l) (pieces_are ts)
 
   abbrev AllLimited : List Stmt → Type 0
-  AllLimited ts = (s : Scope) → in_turn typed (map (walk typed) ts) s ≡ None → (sum ts s).most ≤ top → Within q (sum ts s).creates Flow (execute_all cx ts)
+  AllLimited ts = (s : Scope) → in_turn typed (map (walk typed) ts) s ≡ None → Low top (sum ts s) → Within q (sum ts s).creates Flow (execute_all cx ts)
 
   body_limited : (ts : List Stmt) → AllLimited ts
   body_limited ts = subst AllLimited (pieces_are ts) (sequence_within (pieces ts))
 
   -- ---- functions
 
-  module _ (entries : List Entry) (f : Function) (e : walk_body typed entries f ≡ None) (h : (walk_body counted entries f).most ≤ top) (args : List ℕ) where
+  module _ (entries : List Entry) (f : Function) (e : walk_body typed entries f ≡ None) (h : Low top (walk_body counted entries f)) (args : List ℕ) where
     abbrev bound : ℕ
     bound = (walk_body counted entries f).creates
 

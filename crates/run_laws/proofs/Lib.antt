@@ -8,4 +8,5 @@ pub mod FunctionCounts
 pub mod Threads
 pub mod Steady
 pub mod Mains
+pub mod Started
 pub mod Reached

@@ -17,7 +17,6 @@ use Rattle.c_check.specs.WellFormed.{KeepsLimits, IsChecked}
 use Rattle.run_model.specs.Names.{first_named}
 use Rattle.run_model.specs.Programs.{shape_of}
 use Rattle.run_laws.proofs.Routines.{has_number}
-use Rattle.run_laws.proofs.Expressions.{left_of, right_of}
 use Rattle.run_laws.proofs.FunctionCounts.{counts_for, named_counts}
 use Rattle.run_laws.proofs.Threads.{Fine}
 use Rattle.run_laws.proofs.Steady.{found, enough_fuel}
@@ -33,9 +32,10 @@ all_kept : (ls : List Limited) → first_exceeded ls ≡ None → AllByRecursion
 all_kept [] e = tt
 all_kept (l ∷ ls) e = let parts = kept_at (nat_lt l.limit l.count) l ls e in (ltb-false l.limit l.count parts.0, all_kept ls parts.1)
 
--- main and the threads below it create few
-few_counted : (p : Checked) → KeepsLimits p.k p.program → max (counts_of p.k p.program).creates (counts_of p.k p.program).most ≤ 63
-few_counted p h = (all_kept (limits_of p.k p.program) h).1.1.0
+-- main and the threads below it create few, and few creations lie one below the other
+few_counted : (p : Checked) → KeepsLimits p.k p.program
+    → (max (counts_of p.k p.program).creates (counts_of p.k p.program).most ≤ 63) × ((counts_of p.k p.program).depth ≤ 4)
+few_counted p h = let kept = (all_kept (limits_of p.k p.program) h).1.1 in (kept.0, kept.1.1.0)
 
 -- ---- main
 
@@ -49,8 +49,12 @@ functions_fewer (item.Function f ∷ xs) = omega (arith, functions_fewer xs)
 functions_fewer (item.Prototype p w n ∷ xs) = omega (arith, functions_fewer xs)
 functions_fewer (item.Shared d ∷ xs) = omega (arith, functions_fewer xs)
 
-still_few : (a b : ℕ) → capped a ≡ capped b → a ≤ 63 → b ≤ 63
-still_few a b e h = omega (arith, e, h)
+still_few : (a b t : ℕ) → capped a ≡ capped b → a ≤ t → t ≤ 63 → b ≤ t
+still_few a b t e h low = omega (arith, e, h, low)
+
+-- the bounds of main's counts
+abbrev Few : Counts → Type 0
+Few c = (max c.creates c.most ≤ 63) × (c.depth ≤ 4)
 
 module _ (p : Checked) (checked : IsChecked p) where
   abbrev items : List Item
@@ -63,21 +67,22 @@ module _ (p : Checked) (checked : IsChecked p) where
       has_number (functions_of items) 0 (codes "main") there.0 there.1
 
   -- main's thread is fine, with as much fuel as one wants
-  pub main_fine : (least f : ℕ) → f ≡ (shape_of p.program).main → Fine p least f
-  main_fine least f is =
+  pub main_fine : (least : ℕ) → Fine p least 0 (shape_of p.program).main
+  main_fine least =
       let number = main_number in
       let main : ℕ = number.0 in
       let there = found (codes "main") (functions_of items) main number.1 in
       let n : ℕ = length items in
       let counted : counts_of p.k p.program ≡ counts_for p n main = named_counts p (codes "main") n main number.1 in
-      let few : max (counts_for p n main).creates (counts_for p n main).most ≤ 63 = subst (λ (c : Counts). max c.creates c.most ≤ 63) counted (few_counted p checked.well_formed.limits) in
+      let few : Few (counts_for p n main) = subst Few counted (few_counted p checked.well_formed.limits) in
       let low : length (functions_of items) ≤ n = functions_fewer items in
       let same : capped_counts (counts_for p n main) ≡ capped_counts (counts_for p (n + least) main) = enough_fuel p checked.well_formed.straight least n main there.0 there.1 low in
-      let it : Fine p least main = record {
+      let it : Fine p least 0 main = record {
         fuel = n + least;
         enough = omega arith;
-        few = still_few _ _ (ap (λ (c : Counts). c.creates) same) (left_of _ _ 63 few);
-        few_below = still_few _ _ (ap (λ (c : Counts). c.most) same) (right_of _ _ 63 few);
+        level = omega arith;
+        few = still_few _ _ 63 (ap (λ (c : Counts). c.creates) same) (omega (arith, few.0)) (omega arith);
+        low = (still_few _ _ 63 (ap (λ (c : Counts). c.most) same) (omega (arith, few.0)) (omega arith), still_few _ _ 4 (ap (λ (c : Counts). c.depth) same) few.1 (omega arith));
       } in
       let main_is : (shape_of p.program).main ≡ main = ap (λ (o : Option ℕ). unwrap_or o 0) number.1 in
-      subst (Fine p least) (sym main_is ∙ sym is) it
+      subst (Fine p least 0) (sym main_is) it

@@ -1,5 +1,5 @@
 -- The run of a thread creates at most as many threads as its function counts.
-use Rattle.std.proofs.Common.{◌≡◌, ℕ, zero, suc, ◌+◌, ◌≤◌, List, [], ◌∷◌, Option, Some, None, length, take, refl, sym, ap, ◌∙◌, subst, arith}
+use Rattle.std.proofs.Common.{◌≡◌, ℕ, zero, suc, ◌+◌, ◌-◌, ◌≤◌, List, [], ◌∷◌, Option, Some, None, length, take, refl, sym, ap, ◌∙◌, subst, arith}
 use Rattle.std.specs.Prelude.{slice_get}
 use Rattle.std.proofs.lemmas.Option.{same_Some}
 use Rattle.axiom_model.specs.declared.Action.TheVariants.{Start}
@@ -14,7 +14,7 @@ use Rattle.c_rules.specs.Types.{typed_rules}
 use Rattle.c_rules.specs.Typing.{IsTyped}
 use Rattle.c_check.specs.declared.checked.Checked.{Checked}
 use Rattle.c_check.specs.declared.counts.Counts.{Counts}
-use Rattle.c_check.specs.Counts.{behind_items, top_before}
+use Rattle.c_check.specs.Counts.{exact, behind_items, top_before}
 use Rattle.run_model.specs.declared.state.Halt.TheVariants.{Over, Short}
 use Rattle.run_model.specs.Steps.{State, Outcome, Goes, Halts, make}
 use Rattle.run_model.specs.Calls.{Setting, finish}
@@ -26,7 +26,7 @@ use Rattle.run_model.proofs.Handles.{Numbers, numbers_keeps, state_in}
 use Rattle.run_model.proofs.Fuel.{number_in, stands_at}
 use Rattle.run_laws.proofs.Growing.{CreatesOf, Grows, Within, within_none, within_stop}
 use Rattle.run_laws.proofs.Meanings.{behind, before}
-use Rattle.run_laws.proofs.Expressions.{both_none, Bounds}
+use Rattle.run_laws.proofs.Expressions.{both_none, Bound, Low, Bounds}
 use Rattle.run_laws.proofs.FunctionCounts.{counts_for, bodies, body_counts, named_counts, counts_are}
 use Rattle.run_laws.proofs.Bodies.{run_body_within, call_body_within}
 
@@ -45,88 +45,109 @@ module _ (r : Rules) where
       (both_none (r.head s f) (walk_body (rule_walk r) s.entries f) it).1
   body_unbroken (x ∷ xs) s (suc i) f e g = body_unbroken xs (behind_item x s) i f (both_none (walk_item (rule_walk r) x s) (walk_items (rule_walk r) xs (behind_item x s)) e).1 g
 
--- a thread of the function creates at most 63 threads, and so does each thread below it, by counts with at least so much fuel
-pub record Fine (p : Checked) (least f : ℕ) : Type 0 where
+-- d creations below main: each thread creates at most 63 threads, and 4 - d creations lie below
+abbrev pub at_level : ℕ → Bound
+at_level d = record { most = 63; depth = 4 - d }
+
+-- a function d creations below main: a thread of it creates at most 63 threads, and so does each thread below it, by counts with at least so much fuel
+pub record Fine (p : Checked) (least d f : ℕ) : Type 0 where
   pub fuel : ℕ
   pub enough : least ≤ fuel
+  pub level : d ≤ 4
   pub few : (counts_for p fuel f).creates ≤ 63
-  pub few_below : (counts_for p fuel f).most ≤ 63
+  pub low : Low (at_level d) (counts_for p fuel f)
 
-module _ (p : Checked) (handle least : ℕ) (typed : IsTyped p.program) where
+-- what a thread is made of, where what is made keeps the bounds
+one_below : (p : Checked) (least m d f : ℕ) → least ≤ m → Low (at_level d) (exact.new_thread (counts_for p m f)) → Fine p least (suc d) f
+one_below p least m d f low h = record {
+  fuel = m;
+  enough = low;
+  level = omega (arith, h.1);
+  few = omega (arith, h.0);
+  low = (omega (arith, h.0), omega (arith, h.1));
+}
+
+module _ (p : Checked) (handle least d : ℕ) (typed : IsTyped p.program) where
   abbrev items : List Item
   items = p.program.items
 
   abbrev g : Setting
   g = setting_of p handle
 
+  abbrev Kept : Counts → Type 0
+  Kept c = Low (at_level d) c
+
+  abbrev Made : ℕ → Type 0
+  Made f = Fine p least (suc d) f
+
   body_typed : (f : ℕ) (h : Function) → slice_get g.functions f ≡ Some h → walk_body (rule_walk (typed_rules g.functions)) (top_before items (number_in items f)) h ≡ None
   body_typed f h e = body_unbroken (typed_rules g.functions) items top_scope (number_in items f) h typed (stands_at items f h e)
 
   -- a call creates at most as many threads as it counts with this fuel
   abbrev Counted : ℕ → ℕ → Type 0
-  Counted n m = (f : ℕ) (args : List ℕ) → (counts_for p m f).most ≤ 63 → Within (Fine p least) (counts_for p m f).creates ℕ (call_within n g f args)
+  Counted n m = (f : ℕ) (args : List ℕ) → Kept (counts_for p m f) → Within Made (counts_for p m f).creates ℕ (call_within n g f args)
 
-  bounds : (n m : ℕ) → least ≤ m → Counted n m → Bounds (Fine p least) 63 (context_within n g) (bodies p m)
+  bounds : (n m : ℕ) → least ≤ m → Counted n m → Bounds Made (at_level d) (context_within n g) (bodies p m)
   bounds n m low rest = record {
-    calls = λ a f named most args.
+    calls = λ a f named kept args.
         let same : bodies p m a ≡ counts_for p m f = named_counts p a m f named in
-        subst (λ (c : Counts). Within (Fine p least) c.creates ℕ (call_within n g f args)) (sym same) (rest f args (subst (λ (c : Counts). c.most ≤ 63) same most));
-    creates = λ a f named few most.
+        subst (λ (c : Counts). Within Made c.creates ℕ (call_within n g f args)) (sym same) (rest f args (subst Kept same kept));
+    creates = λ a f named kept.
         let same : bodies p m a ≡ counts_for p m f = named_counts p a m f named in
-        record { fuel = m; enough = low; few = subst (λ (c : Counts). c.creates ≤ 63) same few; few_below = subst (λ (c : Counts). c.most ≤ 63) same most };
+        one_below p least m d f low (subst (λ (c : Counts). Kept (exact.new_thread c)) same kept);
     only = refl;
   }
 
-  called_at : (n m f : ℕ) (args : List ℕ) (o : Option Function) → slice_get g.functions f ≡ o → least ≤ m → Counted n m → (counts_for p (suc m) f).most ≤ 63
-      → Within (Fine p least) (counts_for p (suc m) f).creates ℕ (with_function o (λ h. call_body (context_within n g) h args))
-  called_at n m f args None e low rest most = within_stop (Fine p least) (counts_for p (suc m) f).creates ℕ
-  called_at n m f args (Some h) e low rest most =
+  called_at : (n m f : ℕ) (args : List ℕ) (o : Option Function) → slice_get g.functions f ≡ o → least ≤ m → Counted n m → Kept (counts_for p (suc m) f)
+      → Within Made (counts_for p (suc m) f).creates ℕ (with_function o (λ h. call_body (context_within n g) h args))
+  called_at n m f args None e low rest kept = within_stop Made (counts_for p (suc m) f).creates ℕ
+  called_at n m f args (Some h) e low rest kept =
       let same : counts_for p (suc m) f ≡ body_counts p m f h = counts_are p m f h e in
-      subst (λ (c : Counts). Within (Fine p least) c.creates ℕ (call_body (context_within n g) h args)) (sym same)
-      (call_body_within (Fine p least) 63 (context_within n g) (bodies p m) (bounds n m low rest) (top_before items (number_in items f)) h (body_typed f h e) (subst (λ (c : Counts). c.most ≤ 63) same most) args)
+      subst (λ (c : Counts). Within Made c.creates ℕ (call_body (context_within n g) h args)) (sym same)
+      (call_body_within Made (at_level d) (context_within n g) (bodies p m) (bounds n m low rest) (top_before items (number_in items f)) h (body_typed f h e) (subst Kept same kept) args)
 
   counted : (n m : ℕ) → least + n ≤ m → Counted n m
-  counted zero m low f args most = within_stop (Fine p least) (counts_for p m f).creates ℕ
-  counted (suc n) zero low f args most = absurd (omega (arith, low))
-  counted (suc n) (suc m) low f args most = called_at n m f args (slice_get g.functions f) refl (omega (arith, low)) (counted n m (omega (arith, low))) most
+  counted zero m low f args kept = within_stop Made (counts_for p m f).creates ℕ
+  counted (suc n) zero low f args kept = absurd (omega (arith, low))
+  counted (suc n) (suc m) low f args kept = called_at n m f args (slice_get g.functions f) refl (omega (arith, low)) (counted n m (omega (arith, low))) kept
 
   -- a thread creates at most as many threads as its function counts
-  thread_limited : (m f : ℕ) (h : Function) (arg : ℕ) → least + length g.functions ≤ m → slice_get g.functions f ≡ Some h → (counts_for p (suc m) f).most ≤ 63
-      → Within (Fine p least) (counts_for p (suc m) f).creates ⊥ (thread_steps g h arg)
-  thread_limited m f h arg low e most =
+  thread_limited : (m f : ℕ) (h : Function) (arg : ℕ) → least + length g.functions ≤ m → slice_get g.functions f ≡ Some h → Kept (counts_for p (suc m) f)
+      → Within Made (counts_for p (suc m) f).creates ⊥ (thread_steps g h arg)
+  thread_limited m f h arg low e kept =
       let same : counts_for p (suc m) f ≡ body_counts p m f h = counts_are p m f h e in
       let n : ℕ = length g.functions in
       let sum : ℕ = (body_counts p m f h).creates in
-      let runs : Within (Fine p least) sum ℕ (run_body (context_within n g) h (arg ∷ [])) =
-      run_body_within (Fine p least) 63 (context_within n g) (bodies p m) (bounds n m (omega (arith, low)) (counted n m low)) (top_before items (number_in items f)) h (body_typed f h e)
-      (subst (λ (c : Counts). c.most ≤ 63) same most) (arg ∷ [])
+      let runs : Within Made sum ℕ (run_body (context_within n g) h (arg ∷ [])) =
+      run_body_within Made (at_level d) (context_within n g) (bodies p m) (bounds n m (omega (arith, low)) (counted n m low)) (top_before items (number_in items f)) h (body_typed f h e)
+      (subst Kept same kept) (arg ∷ [])
       in
-      subst (λ (c : Counts). Within (Fine p least) c.creates ⊥ (thread_steps g h arg)) (sym same)
-      (before (Fine p least) sum (Unit {0}) ⊥ (make Start) _ (within_none (Fine p least) 0 (Unit {0}) (make Start) (λ own. (numbers_keeps own).of_action Start tt)) (λ _.
-      behind (Fine p least) sum ℕ ⊥ (run_body (context_within n g) h (arg ∷ [])) (λ _. finish) runs (λ _. within_none (Fine p least) 0 ⊥ finish (λ own. kept_finish own (Numbers own) (numbers_keeps own) ⊥))))
+      subst (λ (c : Counts). Within Made c.creates ⊥ (thread_steps g h arg)) (sym same)
+      (before Made sum (Unit {0}) ⊥ (make Start) _ (within_none Made 0 (Unit {0}) (make Start) (λ own. (numbers_keeps own).of_action Start tt)) (λ _.
+      behind Made sum ℕ ⊥ (run_body (context_within n g) h (arg ∷ [])) (λ _. finish) runs (λ _. within_none Made 0 ⊥ finish (λ own. kept_finish own (Numbers own) (numbers_keeps own) ⊥))))
 
   -- ---- runs
 
   -- the actions create at most so many threads, of functions that are fine
   abbrev Few : ℕ → Run → Type 0
-  Few n r = (creates_in r.actions ≤ n) × CreatesOf (Fine p least) r.actions
+  Few n r = (creates_in r.actions ≤ n) × CreatesOf Made r.actions
 
-  few_in : (n : ℕ) (script : List ℕ) (t : State) (r : Run) → Grows (Fine p least) n (begins script) t → t.actions ≡ r.actions → Few n r
+  few_in : (n : ℕ) (script : List ℕ) (t : State) (r : Run) → Grows Made n (begins script) t → t.actions ≡ r.actions → Few n r
   few_in n script t r grows e =
       let same : grows.made ≡ r.actions = sym grows.actions ∙ e in
-      (subst (λ acts. creates_in acts ≤ n) same grows.few, subst (CreatesOf (Fine p least)) same grows.fine)
+      (subst (λ acts. creates_in acts ≤ n) same grows.few, subst (CreatesOf Made) same grows.fine)
 
-  outcome_few : (n : ℕ) (script : List ℕ) (o : Outcome ⊥) (r : Run) → Grows (Fine p least) n (begins script) (state_in o) → run_in (Some o) ≡ Some r → Few n r
+  outcome_few : (n : ℕ) (script : List ℕ) (o : Outcome ⊥) (r : Run) → Grows Made n (begins script) (state_in o) → run_in (Some o) ≡ Some r → Few n r
   outcome_few n script (Goes v t) r grows e = absurd v
   outcome_few n script (Halts (Over end) t) r grows e = few_in n script t r grows (ap (λ (x : Run). x.actions) (same_Some (run_with t.actions end t.used) r e))
   outcome_few n script (Halts (Short need) t) r grows e = absurd (let no : ◌≡◌ {A = Option Run} None (Some r) = e in cc)
 
-  run_few_at : (m f arg : ℕ) (script : List ℕ) (r : Run) (o : Option Function) → slice_get g.functions f ≡ o → least + length g.functions ≤ m → (counts_for p (suc m) f).most ≤ 63
+  run_few_at : (m f arg : ℕ) (script : List ℕ) (r : Run) (o : Option Function) → slice_get g.functions f ≡ o → least + length g.functions ≤ m → Kept (counts_for p (suc m) f)
       → run_in (outcome_of g o arg script) ≡ Some r → Few (counts_for p (suc m) f).creates r
-  run_few_at m f arg script r None found low most e = absurd (let no : ◌≡◌ {A = Option Run} None (Some r) = e in cc)
-  run_few_at m f arg script r (Some h) found low most e =
-      outcome_few (counts_for p (suc m) f).creates script (thread_steps g h arg (begins script)) r ((thread_limited m f h arg low found most).adds (begins script)) e
+  run_few_at m f arg script r None found low kept e = absurd (let no : ◌≡◌ {A = Option Run} None (Some r) = e in cc)
+  run_few_at m f arg script r (Some h) found low kept e =
+      outcome_few (counts_for p (suc m) f).creates script (thread_steps g h arg (begins script)) r ((thread_limited m f h arg low found kept).adds (begins script)) e
 
   -- the same for its run
-  pub run_few : (m f arg : ℕ) (script : List ℕ) (r : Run) → least + length g.functions ≤ m → (counts_for p (suc m) f).most ≤ 63 → thread_run p f handle arg script ≡ Some r → Few (counts_for p (suc m) f).creates r
-  run_few m f arg script r low most e = run_few_at m f arg script r (slice_get g.functions f) refl low most e
+  pub run_few : (m f arg : ℕ) (script : List ℕ) (r : Run) → least + length g.functions ≤ m → Kept (counts_for p (suc m) f) → thread_run p f handle arg script ≡ Some r → Few (counts_for p (suc m) f).creates r
+  run_few m f arg script r low kept e = run_few_at m f arg script r (slice_get g.functions f) refl low kept e

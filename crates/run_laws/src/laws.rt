@@ -1,4 +1,5 @@
-// What holds of every well made candidate of a checked program.
+//! What holds of every run of a checked program, and of every well made candidate.
+
 ghost use Rattle.std.specs.Prelude.{◌≡◌, List};
 ghost use Rattle.std.specs.List.{AllZip};
 ghost use Rattle.axiom_model.specs.declared.Candidate.{Candidate};
@@ -9,6 +10,16 @@ ghost use Rattle.c_check.specs.WellFormed.{IsChecked};
 ghost use Rattle.run_model.specs.Programs.{shape_of};
 ghost use Rattle.run_model.specs.Threads.{thread_run};
 ghost use Rattle.run_model.specs.Laws.{CreatesFew, CreatesOnce};
+ghost use Rattle.run_laws.specs.Started.{StartedCreateFew, StartedIsShallow, StartedHandlesAreLow};
+
+/// What the check of a program has counted holds of its runs, without an execution: a run of a function
+/// that main leads to creates at most 63 threads, at most four creations lie between main and such a
+/// function, and so each handle is below 2^24.
+pub fn started_threads_are_limited()
+    ensures few { StartedCreateFew }
+    ensures shallow { StartedIsShallow }
+    ensures low_handles { StartedHandlesAreLow }
+{}
 
 /// Each thread of a well made candidate of a checked program creates at most 63 threads.
 pub fn creates_are_few()

@@ -46,7 +46,7 @@ module _ (h f v : ℕ) where
       let q : IsNumbered own n (Create h f v ∷ acts) = subst (λ (x : Action). IsNumbered own n (x ∷ acts)) (first_is a acts e) p in omega (arith, q.0)
   numbered_at own n (a ∷ acts) (suc i) p e = omega (arith, numbered_at own (n + is_create a) acts i (numbered-tail own n a acts p) e)
 
-  few_before : (acts : List Action) (i : ℕ) → slice_get acts i ≡ Some (Create h f v) → before acts i < creates_in acts
+  pub few_before : (acts : List Action) (i : ℕ) → slice_get acts i ≡ Some (Create h f v) → before acts i < creates_in acts
   few_before [] zero e = absurd (let no : ◌≡◌ {A = Option Action} None (Some (Create h f v)) = e in cc)
   few_before [] (suc i) e = absurd (let no : ◌≡◌ {A = Option Action} None (Some (Create h f v)) = e in cc)
   few_before (a ∷ acts) zero e =

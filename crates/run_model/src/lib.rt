@@ -25,6 +25,3 @@ mod types;
 pub use laws::{calls_have_fuel, creates_are_numbered, runs_depend_on_what_they_used};
 pub use state::{Ending, Need};
 pub use thread::{RunStop, ThreadRun, run_thread};
-
-#[cfg(test)]
-mod tests;
