@@ -5,4 +5,3 @@ pub mod Relations
 pub mod Edges
 pub mod Graphs
 pub mod Blocks
-pub mod TwoThreads

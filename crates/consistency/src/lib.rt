@@ -19,8 +19,6 @@ mod laws;
 mod links;
 mod numbering;
 mod relations;
-#[cfg(test)]
-mod tests;
 
 ghost use Rattle.std.specs.Prelude.{IfErr, OnOk};
 ghost use Rattle.axiom_model.specs.WellMade.{Shape, WellMade};
@@ -31,6 +29,7 @@ ghost use Rattle.consistency.specs.Evidence.{IsEvidence, FirstBroken};
 use axiom_model::{Action, Event, MemoryModel, RfPair};
 use dg_base::{List, OutOfMemory};
 pub use laws::answers_exclude_each_other;
+pub use links::same_event;
 use relations::Condition;
 use std::alloc::Global;
 

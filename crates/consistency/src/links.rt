@@ -73,24 +73,11 @@ fn co_links(alloc: Global, co: &[List<Event>]) -> Result<List<Link>, OutOfMemory
     Ok(links)
 }
 
-// Whether the events are one.
-fn same_event(first: &Event, second: &Event) -> bool
+/// Whether both are one event.
+pub fn same_event(first: &Event, second: &Event) -> bool
     ensures { result ≡ same_event first.now second.now }
 {
-    match (*first, *second) {
-        (
-            Event::At {
-                handle: h,
-                index: i,
-            },
-            Event::At {
-                handle: k,
-                index: j,
-            },
-        ) => h == k && i == j,
-        (Event::Initial, Event::Initial) => true,
-        _ => false,
-    }
+    *first == *second
 }
 
 // The event right behind another in a list.
