@@ -11,3 +11,4 @@ pub mod Edges
 pub mod Tables
 pub mod Limiting
 pub mod Cells
+pub mod PlainNames

@@ -7,5 +7,6 @@ pub mod Capped
 pub mod Ordering
 pub mod Limits
 pub mod Checked
+pub mod PlainNames
 pub mod WellFormed
 pub mod Rest

@@ -10,14 +10,16 @@ use Rattle.witness_text.specs.declared.reading.Stage.{Stage}
 use Rattle.witness_text.specs.declared.reading.Stage.TheVariants.{Head, Between, Script, End}
 use Rattle.witness_text.specs.declared.reading.Reading.{Reading}
 use Rattle.witness_text.specs.Witness.{co_line, co_lines, event_text, events_text, last_line, name_at, rf_line, script_line, text_of, thread_line, thread_lines, witness_lines}
-use Rattle.witness_text.specs.Spelling.{Begins, HasEventNumbers, HasNumbers, HasPairNumbers, HasPlainNames, HasThreadNumbers, IsNumber, NoProperPrefix, OneCandidate, Refuses, Spells, lacks, told}
+use Rattle.c_check.specs.PlainNames.{HasPlainNames, lacks}
+use Rattle.witness_text.specs.Spelling.{Begins, HasEventNumbers, HasNumbers, HasPairNumbers, HasThreadNumbers, IsNumber, NoProperPrefix, OneCandidate, Refuses, Spells, told}
 use Rattle.witness_text.specs.Lines.{Cut, cut, given}
 use Rattle.witness_text.specs.Machine.{ended, run, start, step}
-use Rattle.witness_text.proofs.Bytes.{cut_from, cut_none, lacks_append, one_cut}
+use Rattle.witness_text.proofs.Bytes.{cut_from, cut_none, one_cut}
 use Rattle.witness_text.proofs.Digits.{decimal_lacks}
-use Rattle.witness_text.proofs.Spelled.{all_map, event_lacks}
+use Rattle.witness_text.proofs.Spelled.{event_lacks}
 use Rattle.witness_text.proofs.Worded.{shown}
-use Rattle.witness_text.proofs.Rising.{all_append, all_push, all_back}
+use Rattle.c_check.proofs.PlainNames.{all_append, all_back, all_map, lacks_append}
+use Rattle.witness_text.proofs.Rising.{all_push}
 use Rattle.witness_text.proofs.Texts.{text_of_append}
 use Rattle.witness_text.proofs.Holding.{Holds, start_holds, state}
 use Rattle.witness_text.proofs.Stepping.{step_holds}

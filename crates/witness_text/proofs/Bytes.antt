@@ -3,7 +3,7 @@ use Rattle.std.proofs.Common.{◌≡◌, ℕ, suc, ◌+◌, ◌<◌, Bool, true,
 use Rattle.std.proofs.lemmas.Bool.{false≢true}
 use Rattle.std.proofs.lemmas.List.{take_at, drop_at}
 use Rattle.std.specs.Cmp.Lexicographic.{same_text}
-use Rattle.witness_text.specs.Spelling.{lacks}
+use Rattle.c_check.specs.PlainNames.{lacks}
 use Rattle.witness_text.specs.Lines.{given, same_bytes, strip, place, Cut, cut}
 
 pub same_bytes_refl : (a : List ℕ) → same_bytes a a ≡ true
@@ -25,14 +25,6 @@ strip_from a t r = step (same_bytes (take (length a) t) a) refl
         let behind : drop (length a) t ≡ r = cc in
         sym (take-append-drop (length a) t) ∙ (ap (λ l. l ++ drop (length a) t) front ∙ ap (λ l. a ++ l) behind)
     step false e h = cc
-
-pub lacks_append : (b : ℕ) (x y : List ℕ) → lacks b x ≡ true → lacks b y ≡ true → lacks b (x ++ y) ≡ true
-lacks_append b [] y e f = f
-lacks_append b (c ∷ xs) y e f = step (eqb c b) e (λ g. lacks_append b xs y g f)
-  where
-    step : (t : Bool) → cond t false (lacks b xs) ≡ true → (lacks b xs ≡ true → lacks b (xs ++ y) ≡ true) → cond t false (lacks b (xs ++ y)) ≡ true
-    step true g more = g
-    step false g more = more g
 
 pub place_at : (b : ℕ) (x r : List ℕ) → lacks b x ≡ true → place b (x ++ b ∷ r) ≡ length x
 place_at b [] r e = rw (eq-eqb b b refl) refl

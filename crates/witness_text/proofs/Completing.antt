@@ -13,7 +13,7 @@ use Rattle.witness_text.specs.Spelling.{Begins, HasEventNumbers, Spells}
 use Rattle.witness_text.specs.Lines.{given}
 use Rattle.witness_text.specs.Machine.{part_of, with_script}
 use Rattle.witness_text.proofs.Spelled.{script_of}
-use Rattle.witness_text.proofs.Rising.{all_append}
+use Rattle.c_check.proofs.PlainNames.{all_append}
 use Rattle.witness_text.proofs.Texts.{text_of_append}
 use Rattle.witness_text.proofs.Holding.{Holds, co_lines_append, state}
 use Rattle.witness_text.proofs.Stepping.{step_holds}

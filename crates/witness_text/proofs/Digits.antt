@@ -5,9 +5,9 @@ use Rattle.std.specs.Int.{IsInRange}
 use Rattle.std.proofs.lemmas.Bool.{and_parts}
 use Rattle.std.proofs.lemmas.Str.Parse.{IsNumeralModel, IsDigitsTest, FoldsDigits, numerals_by_fold}
 use Rattle.std.proofs.lemmas.Fmt.{digits_decimal, digits_value-decimal, decimal-digits_value, decimal_by_steps, decimal_digit, decimal_nonempty, first_decimal}
-use Rattle.witness_text.specs.Spelling.{lacks}
+use Rattle.c_check.specs.PlainNames.{lacks}
 use Rattle.witness_text.specs.Lines.{digits_from, number_in}
-use Rattle.witness_text.proofs.Bytes.{lacks_append}
+use Rattle.c_check.proofs.PlainNames.{lacks_append}
 
 abbrev AreDigits : List ℕ → Type 0
 AreDigits [] = Unit {0}

@@ -7,6 +7,5 @@ pub mod Rising
 pub mod Running
 pub mod Spelled
 pub mod Stepping
-pub mod Tested
 pub mod Texts
 pub mod Worded

@@ -10,7 +10,8 @@ use Rattle.witness_text.specs.declared.lines.ThreadHead.{ThreadHead}
 use Rattle.witness_text.specs.declared.reading.Stage.TheVariants.{Between, Script, End}
 use Rattle.witness_text.specs.declared.reading.Reading.{Reading}
 use Rattle.witness_text.specs.Witness.{co_line, co_lines, events_text, last_line, name_at, rf_line, script_line, thread_line, thread_lines, witness_lines}
-use Rattle.witness_text.specs.Spelling.{HasEventNumbers, HasNumbers, HasPairNumbers, HasPlainNames, HasThreadNumbers, IsSpellable, handle_before, is_action, reader_before, rises}
+use Rattle.c_check.specs.PlainNames.{HasPlainNames}
+use Rattle.witness_text.specs.Spelling.{HasEventNumbers, HasNumbers, HasPairNumbers, HasThreadNumbers, IsSpellable, handle_before, is_action, reader_before, rises}
 use Rattle.witness_text.specs.Lines.{given, order_in}
 use Rattle.witness_text.specs.Machine.{begun, may_follow, part_of, run, start, step, with_order, with_pair, with_script}
 use Rattle.witness_text.proofs.Spelled.{head_of, order_of, script_of, source_of}

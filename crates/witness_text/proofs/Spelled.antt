@@ -7,15 +7,13 @@ use Rattle.axiom_model.specs.declared.Event.TheVariants.{Initial, At}
 use Rattle.axiom_model.specs.declared.RfPair.{RfPair}
 use Rattle.witness_text.specs.declared.lines.ThreadHead.{ThreadHead}
 use Rattle.witness_text.specs.Witness.{event_text, events_text, name_at, script_line}
-use Rattle.witness_text.specs.Spelling.{lacks, AreDistinct, IsNumber, HasEventNumbers, HasPairNumbers, is_action}
+use Rattle.c_check.specs.PlainNames.{lacks, AreDistinct}
+use Rattle.witness_text.specs.Spelling.{IsNumber, HasEventNumbers, HasPairNumbers, is_action}
 use Rattle.witness_text.specs.Lines.{given, same_bytes, strip, Cut, cut, number_in, action_in, event_in, words_in, narrow, function_in, head_in, source_in, order_in, script_in}
-use Rattle.witness_text.proofs.Bytes.{same_bytes_refl, same_bytes_same, strip_front, strip_from, lacks_append, cut_at, cut_from}
+use Rattle.c_check.proofs.PlainNames.{all_map, lacks_append}
+use Rattle.witness_text.proofs.Bytes.{same_bytes_refl, same_bytes_same, strip_front, strip_from, cut_at, cut_from}
 use Rattle.witness_text.proofs.Digits.{number_from, number_decimal, decimal_lacks}
 use Rattle.witness_text.proofs.Worded.{Told, words_complete, words_sound}
-
-pub all_map : {A : Type 0} (P Q : A → Type 0) (xs : List A) → ((x : A) → P x → Q x) → AllByRecursion P xs → AllByRecursion Q xs
-all_map P Q [] f h = tt
-all_map P Q (x ∷ xs) f h = (f x h.0, all_map P Q xs f h.1)
 
 -- what the text of an event lacks
 pub event_lacks : (b : ℕ) (e : Event) → b < 46 → lacks b (codes "init") ≡ true → HasEventNumbers e → lacks b (event_text e) ≡ true

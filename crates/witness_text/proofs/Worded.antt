@@ -4,7 +4,7 @@ use Rattle.std.proofs.lemmas.Bool.{false≢true}
 use Rattle.std.proofs.lemmas.List.{take_at}
 use Rattle.std.specs.Prelude.{flat_map}
 use Rattle.std.specs.List.{AllByRecursion}
-use Rattle.witness_text.specs.Spelling.{lacks}
+use Rattle.c_check.specs.PlainNames.{lacks}
 use Rattle.witness_text.specs.Lines.{Cut, given, place, front_word, next_word, words_behind, read_all, words_in}
 
 -- values in front of those that are read

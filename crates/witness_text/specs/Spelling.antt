@@ -1,33 +1,13 @@
 -- Which candidates have a text, which text spells which, and where a text that spells none goes wrong.
-use Rattle.std.specs.Prelude.{◌≡◌, ◌≢◌, ℕ, suc, ◌^◌, ◌<◌, min, Bool, true, false, nat_lt, ◌&&◌, ◌||◌, ◌==◌, if◌then◌else◌, List, [], ◌∷◌, ◌++◌, map, length}
+use Rattle.std.specs.Prelude.{◌≡◌, ℕ, suc, ◌^◌, ◌<◌, min, Bool, true, false, nat_lt, ◌&&◌, ◌||◌, ◌==◌, List, [], ◌∷◌, ◌++◌, length}
 use Rattle.std.specs.List.{AllByRecursion}
 use Rattle.axiom_model.specs.declared.Event.{Event}
 use Rattle.axiom_model.specs.declared.Event.TheVariants.{Initial, At}
 use Rattle.axiom_model.specs.declared.RfPair.{RfPair}
 use Rattle.axiom_model.specs.declared.ThreadPart.{ThreadPart}
 use Rattle.axiom_model.specs.declared.Candidate.{Candidate}
-use Rattle.c_check.specs.declared.checked.CellInfo.{CellInfo}
+use Rattle.c_check.specs.PlainNames.{HasPlainNames, lacks}
 use Rattle.witness_text.specs.Witness.{text_of, witness_text}
-
--- the names of the cells, in their order
-abbrev pub cell_names : List CellInfo → List (List ℕ)
-cell_names cells = map (λ (cell : CellInfo). cell.name) cells
-
--- whether a byte does not stand in a text
-abbrev pub lacks : ℕ → List ℕ → Bool
-lacks b [] = true
-lacks b (x ∷ xs) = if x == b then false else lacks b xs
-
-abbrev pub AreDistinct : List (List ℕ) → Type 0
-AreDistinct [] = Unit {0}
-AreDistinct (x ∷ xs) = AllByRecursion (λ y. x ≢ y) xs × AreDistinct xs
-
--- No name of a function holds a blank or a line feed, and none comes twice; no name of a cell holds a line feed.
-pub record HasPlainNames (functions cells : List (List ℕ)) : Type 0 where
-  pub no_blank : AllByRecursion (λ name. lacks 32 name ≡ true) functions
-  pub no_feed : AllByRecursion (λ name. lacks 10 name ≡ true) functions
-  pub distinct : AreDistinct functions
-  pub no_feed_in_cells : AllByRecursion (λ name. lacks 10 name ≡ true) cells
 
 -- The numbers of a candidate have 32 bits.
 abbrev pub IsNumber : ℕ → Type 0

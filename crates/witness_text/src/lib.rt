@@ -15,10 +15,10 @@ mod laws;
 mod lines;
 mod printing;
 mod reading;
-#[cfg(test)]
-mod tests;
+mod text;
 mod words;
 
 pub use laws::{no_proper_prefix, one_candidate};
 pub use printing::print_witness;
 pub use reading::{WitnessFault, read_witness};
+pub use text::{put, put_event, put_events, put_number};

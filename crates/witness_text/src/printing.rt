@@ -1,58 +1,23 @@
 // Printing a witness.
 ghost use Rattle.std.specs.Prelude.{◌≡◌, ◌++◌, ◌∷◌, [], List, ℕ, IfOk, OnOk, codes, decimal, flat_map, map, slice_get};
-ghost use Rattle.witness_text.specs.Spelling.{IsSpellable, cell_names};
-ghost use Rattle.witness_text.specs.Witness.{co_line, co_lines, event_text, events_text, name_at, numbers_text, rf_line, script_line, text_of, thread_line, thread_lines, witness_text};
+ghost use Rattle.c_check.specs.PlainNames.{cell_names};
+ghost use Rattle.std.specs.List.{AllByRecursion};
+ghost use Rattle.witness_text.specs.Spelling.{HasEventNumbers, HasNumbers, HasPairNumbers, HasThreadNumbers, IsNumber, IsSpellable, Spells};
+ghost use Rattle.witness_text.specs.Witness.{co_line, co_lines, name_at, numbers_text, rf_line, script_line, text_of, thread_line, thread_lines, witness_text};
 
+use crate::text::{put, put_event, put_events, put_number};
 use axiom_model::{Candidate, Event, RfPair, ThreadPart};
 use c_check::{CellInfo, Checked};
 use dg_base::{Bytes, List, OutOfMemory};
-use itoa::Buffer;
 use std::alloc::Global;
 
-// Appends the bytes.
-fn put(out: &mut Vec<u8>, bytes: &[u8]) -> Result<(), OutOfMemory>
-    ensures { OnOk result (out.new.items ≡ out.old.items ++ bytes.now) }
-{
-    out.extend_from_slice(bytes)?;
-    Ok(())
-}
-
-fn put_number(out: &mut Vec<u8>, n: u32) -> Result<(), OutOfMemory>
-    ensures { OnOk result (out.new.items ≡ out.old.items ++ decimal n) }
-{
-    let mut buffer = Buffer::new();
-    put(out, buffer.format(n).as_bytes())
-}
-
-fn put_event(out: &mut Vec<u8>, event: Event) -> Result<(), OutOfMemory>
-    ensures { OnOk result (out.new.items ≡ out.old.items ++ event_text event) }
-{
-    match event {
-        Event::Initial => put(out, b"init"),
-        Event::At { handle, index } => {
-            put_number(out, handle)?;
-            put(out, b".")?;
-            put_number(out, index)
-        }
-    }
-}
-
 fn put_numbers(out: &mut Vec<u8>, numbers: &[u32]) -> Result<(), OutOfMemory>
-    ensures { OnOk result (out.new.items ≡ out.old.items ++ numbers_text numbers.now) }
+    ensures text { OnOk result (out.new.items ≡ out.old.items ++ numbers_text numbers.now) }
+    ensures numbers { AllByRecursion IsNumber numbers.now }
 {
     for number in numbers {
         put(out, b" ")?;
         put_number(out, *number)?;
-    }
-    Ok(())
-}
-
-fn put_events(out: &mut Vec<u8>, events: &[Event]) -> Result<(), OutOfMemory>
-    ensures { OnOk result (out.new.items ≡ out.old.items ++ events_text events.now) }
-{
-    for event in events {
-        put(out, b" ")?;
-        put_event(out, *event)?;
     }
     Ok(())
 }
@@ -72,7 +37,8 @@ fn put_thread_line(
     functions: &[Bytes],
     part: &ThreadPart,
 ) -> Result<(), OutOfMemory>
-    ensures { OnOk result (out.new.items ≡ out.old.items ++ thread_line functions.now part.now.handle part.now.function part.now.arg) }
+    ensures text { OnOk result (out.new.items ≡ out.old.items ++ thread_line functions.now part.now.handle part.now.function part.now.arg) }
+    ensures numbers { OnOk result (IsNumber part.now.handle × IsNumber part.now.function × IsNumber part.now.arg) }
 {
     put(out, b"thread ")?;
     put_number(out, part.handle)?;
@@ -83,7 +49,8 @@ fn put_thread_line(
 }
 
 fn put_thread(out: &mut Vec<u8>, functions: &[Bytes], part: &ThreadPart) -> Result<(), OutOfMemory>
-    ensures { OnOk result (out.new.items ≡ out.old.items ++ text_of (thread_lines functions.now part.now)) }
+    ensures text { OnOk result (out.new.items ≡ out.old.items ++ text_of (thread_lines functions.now part.now)) }
+    ensures numbers { OnOk result (HasThreadNumbers part.now) }
 {
     put_thread_line(out, functions, part)?;
     put(out, b"\n")?;
@@ -97,7 +64,8 @@ fn put_threads(
     functions: &[Bytes],
     parts: &[ThreadPart],
 ) -> Result<(), OutOfMemory>
-    ensures { OnOk result (out.new.items ≡ out.old.items ++ text_of (flat_map (thread_lines functions.now) parts.now)) }
+    ensures text { OnOk result (out.new.items ≡ out.old.items ++ text_of (flat_map (thread_lines functions.now) parts.now)) }
+    ensures numbers { OnOk result (AllByRecursion HasThreadNumbers parts.now) }
 {
     for part in parts {
         put_thread(out, functions, part)?;
@@ -106,7 +74,8 @@ fn put_threads(
 }
 
 fn put_source(out: &mut Vec<u8>, pair: &RfPair) -> Result<(), OutOfMemory>
-    ensures { OnOk result (out.new.items ≡ out.old.items ++ (rf_line pair.now ++ 10 ∷ [])) }
+    ensures text { OnOk result (out.new.items ≡ out.old.items ++ (rf_line pair.now ++ 10 ∷ [])) }
+    ensures numbers { OnOk result (HasPairNumbers pair.now) }
 {
     put(out, b"rf ")?;
     put_event(out, pair.reader)?;
@@ -116,7 +85,8 @@ fn put_source(out: &mut Vec<u8>, pair: &RfPair) -> Result<(), OutOfMemory>
 }
 
 fn put_sources(out: &mut Vec<u8>, pairs: &[RfPair]) -> Result<(), OutOfMemory>
-    ensures { OnOk result (out.new.items ≡ out.old.items ++ text_of (map rf_line pairs.now)) }
+    ensures text { OnOk result (out.new.items ≡ out.old.items ++ text_of (map rf_line pairs.now)) }
+    ensures numbers { OnOk result (AllByRecursion HasPairNumbers pairs.now) }
 {
     for pair in pairs {
         put_source(out, pair)?;
@@ -140,7 +110,8 @@ fn put_order(
     cell: usize,
     events: &[Event],
 ) -> Result<(), OutOfMemory>
-    ensures { OnOk result (out.new.items ≡ out.old.items ++ (co_line (name_at (cell_names cells.now) cell) events.now ++ 10 ∷ [])) }
+    ensures text { OnOk result (out.new.items ≡ out.old.items ++ (co_line (name_at (cell_names cells.now) cell) events.now ++ 10 ∷ [])) }
+    ensures numbers { OnOk result (AllByRecursion HasEventNumbers events.now) }
 {
     put(out, b"co ")?;
     put_cell(out, cells, cell)?;
@@ -153,7 +124,8 @@ fn put_orders(
     cells: &[CellInfo],
     orders: &[List<Event>],
 ) -> Result<(), OutOfMemory>
-    ensures { OnOk result (out.new.items ≡ out.old.items ++ text_of (co_lines (cell_names cells.now) 0 orders.now)) }
+    ensures text { OnOk result (out.new.items ≡ out.old.items ++ text_of (co_lines (cell_names cells.now) 0 orders.now)) }
+    ensures numbers { OnOk result (AllByRecursion (AllByRecursion HasEventNumbers) orders.now) }
 {
     for (cell, events) in orders.iter().enumerate() {
         put_order(out, cells, cell, events.as_slice())?;
@@ -166,7 +138,8 @@ fn put_witness(
     checked: &Checked,
     candidate: &Candidate,
 ) -> Result<(), OutOfMemory>
-    ensures { OnOk result (out.new.items ≡ out.old.items ++ witness_text checked.now.functions (cell_names checked.now.cells) candidate.now) }
+    ensures text { OnOk result (out.new.items ≡ out.old.items ++ witness_text checked.now.functions (cell_names checked.now.cells) candidate.now) }
+    ensures numbers { OnOk result (HasNumbers candidate.now) }
 {
     put(out, b"deagle-witness 1\n")?;
     put_threads(
@@ -179,14 +152,14 @@ fn put_witness(
     put(out, b"end\n")
 }
 
-/// The text of a candidate: of each thread two lines, of each pair and of the order of each cell one.
+/// The text that spells a candidate: of each thread two lines, of each pair and of the order of each cell one.
 pub fn print_witness(
     alloc: Global,
     checked: &Checked,
     candidate: &Candidate,
 ) -> Result<List<u8>, OutOfMemory>
     requires { IsSpellable checked.now.functions (cell_names checked.now.cells) candidate.now }
-    ensures { IfOk result (λ text. text ≡ witness_text checked.now.functions (cell_names checked.now.cells) candidate.now) }
+    ensures { IfOk result (Spells checked.now.functions (cell_names checked.now.cells) candidate.now) }
 {
     let mut out = Vec::new(alloc);
     put_witness(&mut out, checked, candidate)?;

@@ -1,7 +1,8 @@
 // Reading a witness, line by line.
 ghost use Rattle.std.specs.Prelude.{◌≡◌, [], IfOk, IfErr, MatchOption, None, Some, slice_get};
 ghost use Rattle.witness_text.specs.Machine.{between, ended, may_follow, on_end, on_head, on_order, on_script, on_source, on_thread, part_of, start, step};
-ghost use Rattle.witness_text.specs.Spelling.{HasPlainNames, Spells, cell_names, event_before, handle_before, reader_before};
+ghost use Rattle.c_check.specs.PlainNames.{HasPlainNames, cell_names};
+ghost use Rattle.witness_text.specs.Spelling.{Spells, event_before, handle_before, reader_before};
 ghost use Rattle.witness_text.specs.Faults.{IsFaultOf};
 ghost use Rattle.witness_text.specs.declared.reading.WitnessFault.TheVariants.{OutOfMemory};
 

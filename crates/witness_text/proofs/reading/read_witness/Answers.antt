@@ -1,6 +1,6 @@
 use Rattle.std.proofs.Common.{◌≡◌, Some, None, sym, ◌∙◌}
 use Rattle.std.proofs.lemmas.Result.{err_from_is_err_and}
-use Rattle.witness_text.specs.Spelling.{cell_names}
+use Rattle.c_check.specs.PlainNames.{cell_names}
 use Rattle.witness_text.specs.Lines.{Cut, cut}
 use Rattle.witness_text.specs.Machine.{step}
 use Rattle.witness_text.proofs.Answering.{read_end, reached_more, refused_end, refused_line}

@@ -1,5 +1,5 @@
 use Rattle.std.proofs.Common.{length}
-use Rattle.witness_text.specs.Spelling.{cell_names}
+use Rattle.c_check.specs.PlainNames.{cell_names}
 use Rattle.witness_text.proofs.Answering.{Reached}
 use Rattle.witness_text.proofs.reading.read_witness.Given as goal
 

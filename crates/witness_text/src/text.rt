@@ -1,0 +1,52 @@
+// Parts of texts, appended to a buffer.
+ghost use Rattle.std.specs.Prelude.{◌≡◌, ◌++◌, OnOk, decimal};
+ghost use Rattle.std.specs.List.{AllByRecursion};
+ghost use Rattle.witness_text.specs.Spelling.{HasEventNumbers};
+ghost use Rattle.witness_text.specs.Witness.{event_text, events_text};
+
+use axiom_model::Event;
+use dg_base::OutOfMemory;
+use itoa::Buffer;
+
+/// Appends the bytes.
+pub fn put(out: &mut Vec<u8>, bytes: &[u8]) -> Result<(), OutOfMemory>
+    ensures { OnOk result (out.new.items ≡ out.old.items ++ bytes.now) }
+{
+    out.extend_from_slice(bytes)?;
+    Ok(())
+}
+
+/// Appends the number, in decimal digits.
+pub fn put_number(out: &mut Vec<u8>, n: u32) -> Result<(), OutOfMemory>
+    ensures { OnOk result (out.new.items ≡ out.old.items ++ decimal n) }
+{
+    let mut buffer = Buffer::new();
+    put(out, buffer.format(n).as_bytes())
+}
+
+/// Appends `init` or `H.I`.
+pub fn put_event(out: &mut Vec<u8>, event: Event) -> Result<(), OutOfMemory>
+    ensures text { OnOk result (out.new.items ≡ out.old.items ++ event_text event) }
+    ensures numbers { HasEventNumbers event }
+{
+    match event {
+        Event::Initial => put(out, b"init"),
+        Event::At { handle, index } => {
+            put_number(out, handle)?;
+            put(out, b".")?;
+            put_number(out, index)
+        }
+    }
+}
+
+/// Appends the events, each behind one blank.
+pub fn put_events(out: &mut Vec<u8>, events: &[Event]) -> Result<(), OutOfMemory>
+    ensures text { OnOk result (out.new.items ≡ out.old.items ++ events_text events.now) }
+    ensures numbers { OnOk result (AllByRecursion HasEventNumbers events.now) }
+{
+    for event in events {
+        put(out, b" ")?;
+        put_event(out, *event)?;
+    }
+    Ok(())
+}
