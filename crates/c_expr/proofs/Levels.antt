@@ -1,13 +1,13 @@
 -- What the grammar says of levels and of the depth of a tree.
 use Rattle.std.proofs.Common.{ℕ, zero, suc, ◌≤◌, List, map, arith}
-use Rattle.c_token.specs.declared.Token.{Token}
+use Rattle.token_list.specs.declared.Token.{Token}
 use Rattle.c_tree.specs.declared.expr.BinaryOp.{BinaryOp}
 use Rattle.c_tree.specs.declared.expr.BinaryOp.TheVariants as op
 use Rattle.c_tree.specs.declared.expr.Expr.{Expr}
 use Rattle.c_tree.specs.Level.{greatest, expr_level}
 use Rattle.c_expr.specs.Expressions.{tier, is_lvalue, Reads, ReadsArgument, ReadsArguments, name, number, bracket, index, call, cast, prefix, step_before, step_after, binary, choose, assign, comma, value, address, text, no_argument, one_argument, more_arguments}
 use Rattle.c_expr.specs.Expressions as g
-use Rattle.c_token.specs.Numbers.{is_unsigned}
+use Rattle.token_list.specs.Numbers.{is_unsigned}
 use Rattle.c_expr.proofs.Depths as d
 
 -- a text of a tighter level is one of a looser level

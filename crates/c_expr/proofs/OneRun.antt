@@ -1,6 +1,6 @@
 -- A list has one longest run, so that a text which is parsed has one tree and one rest.
 use Rattle.std.proofs.Common.{◌≡◌, ◌⊎◌, inl, inr, List, [], ◌∷◌, ◌++◌, refl, sym, ◌∙◌, append_assoc}
-use Rattle.c_token.specs.declared.Token.{Token}
+use Rattle.token_list.specs.declared.Token.{Token}
 use Rattle.c_expr.specs.Expressions.{IsLongestRun}
 use Rattle.c_expr.proofs.Holding.{shorter}
 

@@ -4,8 +4,8 @@ use Rattle.std.specs.Prelude.{codes, nat_le}
 use Rattle.std.proofs.lemmas.List.{append-nil}
 use Rattle.std.proofs.lemmas.Bool.{leb-true, cond_both, false≢true}
 use Rattle.dg_base.specs.declared.Place.{Place}
-use Rattle.c_token.specs.declared.Token.{Token}
-use Rattle.c_token.specs.declared.TokenKind.TheVariants as kind
+use Rattle.token_list.specs.declared.Token.{Token}
+use Rattle.token_list.specs.declared.TokenKind.TheVariants as kind
 use Rattle.c_tree.specs.declared.expr.TypeWord.{TypeWord}
 use Rattle.c_tree.specs.declared.expr.TypeWord.TheVariants as type
 use Rattle.c_tree.specs.declared.expr.UnaryOp.{UnaryOp}
@@ -20,9 +20,9 @@ use Rattle.c_expr.specs.declared.word.Word.{Word}
 use Rattle.c_expr.specs.declared.word.Word.TheVariants as w
 use Rattle.c_expr.specs.declared.frame.Frame.{Frame}
 use Rattle.c_expr.specs.declared.frame.Frame.TheVariants.{InBracket, InTarget, InIndex, InCall, AfterAddress, AfterCast, AfterSign, AfterStep, AfterOperator, AfterTest, AfterChoice, AfterAssign, AfterComma}
-use Rattle.c_token.specs.Numbers.{is_unsigned}
+use Rattle.token_list.specs.Numbers.{is_unsigned}
 use Rattle.c_expr.specs.Words.{mark, word, prefix_text, step_text, binary_text, type_text}
-use Rattle.c_expr.specs.Expressions.{value_in, IsType, int, signed, signed_int, unsigned, unsigned_int, void, pointer, thread, mutex, Reads, number, call, no_argument}
+use Rattle.c_expr.specs.Expressions.{value_in, IsType, int, signed, signed_int, unsigned, unsigned_int, void, pointer, thread, mutex, cond as cond_variable, Reads, number, call, no_argument}
 use Rattle.c_expr.specs.Machine as machine
 use Rattle.c_expr.specs.Machine.{wants, State, Want, Named, Have, Texts, Typed, Next, Go, Stop, if_so, pushed, calls, no_arguments, typed, sign_of, operator_first, bracket_frame, start}
 use Rattle.c_expr.specs.TypeWords.{first_word, may_grow, is_int, is_star}
@@ -96,7 +96,7 @@ first_type tn.Unsigned p = unsigned p
 first_type tn.Void p = void p
 first_type tn.Thread p = thread p
 first_type tn.Mutex p = mutex p
-first_type tn.Cond p = cond p
+first_type tn.Cond p = cond_variable p
 
 -- one word more behind `signed`, `unsigned` and `void`
 some_if : (b : Bool) (x j : TypeWord) → cond b (Some x) None ≡ Some j → (b ≡ true) × (x ≡ j)

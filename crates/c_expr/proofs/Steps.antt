@@ -3,8 +3,8 @@ use Rattle.std.proofs.Common.{◌≡◌, ℕ, zero, suc, ◌+◌, ◌≤◌, Boo
 use Rattle.std.specs.Prelude.{codes, nat_le}
 use Rattle.std.proofs.lemmas.Bool.{leb-true, and_parts, both_ways, false≢true}
 use Rattle.dg_base.specs.declared.Place.{Place}
-use Rattle.c_token.specs.declared.Token.{Token}
-use Rattle.c_token.specs.declared.TokenKind.TheVariants as kind
+use Rattle.token_list.specs.declared.Token.{Token}
+use Rattle.token_list.specs.declared.TokenKind.TheVariants as kind
 use Rattle.c_tree.specs.declared.expr.TypeWord.{TypeWord}
 use Rattle.c_tree.specs.declared.expr.StepOp.{StepOp}
 use Rattle.c_tree.specs.declared.expr.BinaryOp.{BinaryOp}

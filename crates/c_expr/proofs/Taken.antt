@@ -3,7 +3,7 @@ use Rattle.std.proofs.Common.{◌≡◌, ℕ, suc, ◌+◌, ◌≤◌, Bool, tru
 use Rattle.std.specs.Prelude.{codes, nat_le, nat_lt}
 use Rattle.std.proofs.lemmas.Bool.{le-leb, le-ltb, and_from, cond-true, cond-false}
 use Rattle.dg_base.specs.declared.Place.{Place}
-use Rattle.c_token.specs.declared.Token.{Token}
+use Rattle.token_list.specs.declared.Token.{Token}
 use Rattle.c_tree.specs.declared.expr.TypeWord.{TypeWord}
 use Rattle.c_tree.specs.declared.expr.UnaryOp.{UnaryOp}
 use Rattle.c_tree.specs.declared.expr.UnaryOp.TheVariants as unary
@@ -18,7 +18,7 @@ use Rattle.c_expr.specs.declared.word.Word.TheVariants as w
 use Rattle.c_expr.specs.declared.frame.Frame.{Frame}
 use Rattle.c_expr.specs.declared.frame.Frame.TheVariants.{InBracket, InTarget, InIndex, InCall, AfterAddress, AfterCast, AfterSign, AfterStep, AfterOperator, AfterTest, AfterChoice, AfterAssign, AfterComma}
 use Rattle.c_expr.specs.Words.{mark, prefix_text, step_text, binary_text, assignment_text, word_of}
-use Rattle.c_expr.specs.Expressions.{tier, may_assign, is_lvalue, IsType, int, signed, signed_int, unsigned, unsigned_int, void, pointer, thread, mutex}
+use Rattle.c_expr.specs.Expressions.{tier, may_assign, is_lvalue, IsType, int, signed, signed_int, unsigned, unsigned_int, void, pointer, thread, mutex, cond as cond_variable}
 use Rattle.c_expr.specs.Machine as machine
 use Rattle.c_expr.specs.Machine.{reach, wanted_by, wants, Held, close, State, Want, Named, Have, Next, Go, if_so, pushed, has_room, over, extend, named, start, step_behind, right, bracket_frame, step, Ended, goes_on, run, finish, whole}
 use Rattle.c_expr.proofs.Spelled.{word-step, word-binary, word-assign}
@@ -220,3 +220,4 @@ type_run f n p q s rest (void u) = refl
 type_run f n p q s rest (pointer u v) = refl
 type_run f n p q s rest (thread u) = refl
 type_run f n p q s rest (mutex u) = refl
+type_run f n p q s rest (cond_variable u) = refl

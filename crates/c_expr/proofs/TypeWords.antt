@@ -2,13 +2,13 @@
 use Rattle.std.proofs.Common.{◌≡◌, Bool, List, [], ◌∷◌, refl, ap, ◌∙◌, sym, subst}
 use Rattle.std.specs.Prelude.{codes}
 use Rattle.dg_base.specs.declared.Place.{Place}
-use Rattle.c_token.specs.declared.Token.{Token}
+use Rattle.token_list.specs.declared.Token.{Token}
 use Rattle.c_tree.specs.declared.expr.TypeWord.{TypeWord}
 use Rattle.c_expr.specs.declared.word.TypeName.{TypeName}
 use Rattle.c_expr.specs.declared.word.TypeName.TheVariants as tn
 use Rattle.c_expr.specs.declared.word.Word.TheVariants as w
 use Rattle.c_expr.specs.Words.{mark, word, type_text, word_of}
-use Rattle.c_expr.specs.Expressions.{IsType, int, signed, signed_int, unsigned, unsigned_int, void, pointer, thread, mutex}
+use Rattle.c_expr.specs.Expressions.{IsType, int, signed, signed_int, unsigned, unsigned_int, void, pointer, thread, mutex, cond}
 use Rattle.c_expr.specs.TypeWords.{first_word, may_grow, grown, TypeRest, whole, grows, IsTypeByWords, TypesByWords}
 use Rattle.c_expr.proofs.Spelled.{spelled}
 use Rattle.c_expr.proofs.Starts.{first_type, first_grows}

@@ -3,11 +3,11 @@ use Rattle.std.proofs.Common.{◌≡◌, ◌⊎◌, inl, inr, ⊎_elim, ℕ, suc
 use Rattle.std.specs.Prelude.{codes, nat_le, nat_lt}
 use Rattle.std.proofs.lemmas.Bool.{le-leb, lt-leb, lt-ltb, cond-true, cond-false, cases_lt, both_ways}
 use Rattle.dg_base.specs.declared.Place.{Place}
-use Rattle.c_token.specs.declared.Token.{Token}
-use Rattle.c_token.specs.declared.TokenKind.TheVariants as kind
+use Rattle.token_list.specs.declared.Token.{Token}
+use Rattle.token_list.specs.declared.TokenKind.TheVariants as kind
 use Rattle.c_tree.specs.declared.expr.Expr.{Expr}
 use Rattle.c_tree.specs.declared.expr.Expr.TheVariants as e
-use Rattle.c_token.specs.Numbers.{is_unsigned}
+use Rattle.token_list.specs.Numbers.{is_unsigned}
 use Rattle.c_expr.specs.declared.word.Word.TheVariants as w
 use Rattle.c_expr.specs.declared.frame.Frame.{Frame}
 use Rattle.c_expr.specs.declared.frame.Frame.TheVariants.{InBracket, InTarget, InIndex, InCall, AfterAddress, AfterCast, AfterSign, AfterStep, AfterOperator, AfterTest, AfterChoice, AfterAssign, AfterComma}

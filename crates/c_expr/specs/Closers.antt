@@ -1,6 +1,6 @@
 -- What no text goes on with, what the parser finds before it, and what a text begins with.
 use Rattle.std.specs.Prelude.{◌≡◌, ℕ, ◌≤◌, nat_le, Bool, true, false, IsTrue, List, [], ◌∷◌, ◌++◌}
-use Rattle.c_token.specs.declared.Token.{Token}
+use Rattle.token_list.specs.declared.Token.{Token}
 use Rattle.c_tree.specs.declared.expr.Expr.{Expr}
 use Rattle.c_expr.specs.declared.word.Word.{Word}
 use Rattle.c_expr.specs.declared.word.Word.TheVariants as w

@@ -12,9 +12,9 @@ use Rattle.c_tree.specs.declared.expr.AssignOp.TheVariants as assignment
 use Rattle.c_tree.specs.declared.expr.Expr.{Expr, fold-Expr}
 use Rattle.c_tree.specs.declared.expr.Expr.TheVariants as e
 use Rattle.c_tree.specs.declared.expr.Expr.TheOpen.{Expr-F}
-use Rattle.c_token.specs.declared.Token.{Token}
-use Rattle.c_token.specs.declared.TokenKind.TheVariants.{Number, Text}
-use Rattle.c_token.specs.Numbers.{number_value, is_unsigned}
+use Rattle.token_list.specs.declared.Token.{Token}
+use Rattle.token_list.specs.declared.TokenKind.TheVariants.{Number, Text}
+use Rattle.token_list.specs.Numbers.{number_value, is_unsigned}
 use Rattle.c_expr.specs.Words.{mark, word, prefix_text, step_text, binary_text, assignment_text, IsName}
 
 -- The levels, from the loosest: 0 with commas, 1 an assignment, 2 a choice, 3 to 12 the binary operators, 13 a sign, 14 an operand.

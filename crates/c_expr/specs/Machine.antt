@@ -1,7 +1,7 @@
 -- The parser as a machine: a stack of nodes that are not whole yet, the topmost first, and one step for each token.
 use Rattle.std.specs.Prelude.{Option, Some, None, ℕ, suc, ◌+◌, Bool, true, false, nat_le, nat_lt, ◌&&◌, if◌then◌else◌, List, [], ◌∷◌, ◌++◌, length}
 use Rattle.dg_base.specs.declared.Place.{Place}
-use Rattle.c_token.specs.declared.Token.{Token}
+use Rattle.token_list.specs.declared.Token.{Token}
 use Rattle.c_tree.specs.declared.expr.TypeWord.{TypeWord}
 use Rattle.c_tree.specs.declared.expr.UnaryOp.{UnaryOp}
 use Rattle.c_tree.specs.declared.expr.UnaryOp.TheVariants as unary
@@ -20,7 +20,7 @@ use Rattle.c_expr.specs.declared.frame.Frame.TheVariants.{InBracket, InTarget, I
 use Rattle.c_expr.specs.Words.{word_of}
 use Rattle.c_expr.specs.TypeWords.{first_word, may_grow, grown}
 use Rattle.c_expr.specs.Expressions.{tier, is_lvalue, value_in}
-use Rattle.c_token.specs.Numbers.{is_unsigned}
+use Rattle.token_list.specs.Numbers.{is_unsigned}
 
 -- the node with its last part
 abbrev pub filled : Frame → Expr → Expr

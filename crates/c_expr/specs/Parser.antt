@@ -3,8 +3,8 @@ use Rattle.std.specs.Prelude.{◌≡◌, ℕ, ◌≤◌, List, [], ◌∷◌, re
 use Rattle.dg_base.specs.declared.Place.{Place}
 use Rattle.dg_base.specs.declared.refusal.Refusal.{Refusal}
 use Rattle.dg_base.specs.declared.refusal.Refusal.TheVariants.{Syntax, OutOfMemory}
-use Rattle.c_token.specs.declared.Token.{Token}
-use Rattle.c_token.specs.declared.Tokens.{Tokens}
+use Rattle.token_list.specs.declared.Token.{Token}
+use Rattle.token_list.specs.declared.Tokens.{Tokens}
 use Rattle.c_tree.specs.declared.expr.Expr.{Expr}
 use Rattle.c_expr.specs.declared.frame.Frame.{Frame}
 use Rattle.c_expr.specs.declared.frame.Frame.TheVariants.{AfterOperator, AfterTest, AfterAssign, AfterComma}

@@ -1,7 +1,9 @@
-// What the parser keeps: the nodes that are not whole yet, and what it read last.
+// What the parser keeps: the nodes that are not whole yet, and what it read last. The trees are boxed as soon as they are
+// whole: so the node above takes them as they are.
 
 use c_tree::{AssignOp, BinaryOp, Expr, StepOp, TypeWord, UnaryOp};
 use dg_base::{Bytes, List, Place};
+use sqlite_items::Boxed;
 
 /// A node whose last part is still to be read, with the parts that are read.
 #[derive(Drop)]
@@ -23,15 +25,15 @@ pub enum Frame {
     /// Behind `++` or `--`.
     AfterStep(Place, StepOp),
     /// Behind the left operand and its operator.
-    AfterOperator(Place, BinaryOp, Expr),
+    AfterOperator(Place, BinaryOp, Boxed<Expr>),
     /// Behind a test and `?`.
-    AfterTest(Place, Expr),
+    AfterTest(Place, Boxed<Expr>),
     /// Behind a test, `?`, the first choice and `:`.
-    AfterChoice(Place, Expr, Expr),
+    AfterChoice(Place, Boxed<Expr>, Boxed<Expr>),
     /// Behind what is assigned to and the operator.
-    AfterAssign(Place, AssignOp, Expr),
+    AfterAssign(Place, AssignOp, Boxed<Expr>),
     /// Behind an expression and a comma.
-    AfterComma(Place, Expr),
+    AfterComma(Place, Boxed<Expr>),
 }
 
 /// What was read last.
@@ -42,7 +44,7 @@ pub enum Reading {
     /// A name.
     Name(Place, Bytes),
     /// A whole operand.
-    Read(Expr),
+    Read(Boxed<Expr>),
     /// An argument's texts, from this place on.
     Texts(Place),
     /// The `(` of a cast at this place, and words of a type; whether one word more may belong to it.
@@ -55,11 +57,11 @@ pub enum Stepped {
     /// It goes on.
     Go(Reading),
     /// It stops.
-    Stop(Option<Expr>),
+    Stop(Option<Boxed<Expr>>),
 }
 
 /// A node that begins behind its first part.
-#[derive(Debug, Clone, Copy, PartialEq, Eq, Drop)]
+#[derive(Clone, Copy, Drop)]
 pub enum Opening {
     /// An operator between operands.
     Operator(BinaryOp),

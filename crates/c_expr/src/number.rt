@@ -1,9 +1,9 @@
 // The value of a number, and whether it is unsigned.
 ghost use Rattle.std.specs.Prelude.{◌≡◌};
 ghost use Rattle.c_expr.specs.Expressions.{value_in};
-ghost use Rattle.c_token.specs.Numbers as spelling;
+ghost use Rattle.token_list.specs.Numbers as spelling;
 
-use c_token::{is_unsigned, number_value};
+use token_list::{is_unsigned, number_value};
 
 /// The value of a number's text, and whether it is unsigned. A text that spells no value has 0.
 pub(crate) fn number(text: &[u8]) -> (u32, bool)

@@ -8,7 +8,7 @@ use crate::form::ExprForm;
 use crate::frame::{Frame, Opening, Reading, Stepped};
 use crate::number::number;
 use crate::stack::{
-    address, bracket, close, finish, finish_tree, has_room, index, is_lvalue, push, push_over,
+    called, close, filled, finish, finish_name, finish_tree, has_room, is_lvalue, push, push_over,
     tier, wants,
 };
 use crate::tops::{
@@ -16,10 +16,11 @@ use crate::tops::{
 };
 use crate::type_words::{first_word, grown, may_grow};
 use crate::word::{TypeName, Word, word_of};
-use c_token::{Token, Tokens};
 use c_tree::{AssignOp, BinaryOp, Expr, StepOp, TypeWord, UnaryOp};
 use dg_base::{Bytes, List, Place, Refusal};
+use sqlite_items::Boxed;
 use std::alloc::{AllocError, Global};
+use token_list::{Token, Tokens};
 
 /// What does not change during a run: the allocator, the level of the form, and how many nodes may lie on one way down.
 #[derive(Clone, Copy)]
@@ -33,6 +34,20 @@ fn stop() -> Result<Stepped, AllocError>
     ensures { result ≡ Ok (Stepped.Stop None) }
 {
     Ok(Stepped::Stop(None))
+}
+
+// An operand that is whole.
+fn read(limits: Limits, tree: Expr) -> Result<Stepped, AllocError>
+    ensures { IfOk result (λ r. r ≡ Stepped.Go (Reading.Read tree)) }
+{
+    Ok(Stepped::Go(Reading::Read(Boxed::new(limits.alloc, tree)?)))
+}
+
+// The node of the frame, with its last part.
+fn read_filled(limits: Limits, frame: Frame, tree: Boxed<Expr>) -> Result<Stepped, AllocError>
+    ensures { IfOk result (λ r. r ≡ Stepped.Go (Reading.Read (machine.filled frame tree))) }
+{
+    Ok(Stepped::Go(Reading::Read(filled(limits.alloc, frame, tree)?)))
 }
 
 // Whether no target is wanted.
@@ -78,12 +93,12 @@ fn operator_first(
 }
 
 // A `)` where an operand is to come: a call has no arguments.
-fn no_arguments(stack: &mut List<Frame>) -> Result<Stepped, AllocError>
+fn no_arguments(limits: Limits, stack: &mut List<Frame>) -> Result<Stepped, AllocError>
     ensures { IfOk result (λ r. spec.StepGives r stack.new (machine.no_arguments (reverse stack.old)) (machine.Want (reverse stack.old))) }
 {
     match pop_call(stack) {
         Some(Call { place, name, args }) if args.is_empty() => {
-            Ok(Stepped::Go(Reading::Read(Expr::Call { place, name, args })))
+            read(limits, Expr::Call { place, name, args })
         }
         _ => stop(),
     }
@@ -116,18 +131,21 @@ fn start(limits: Limits, token: &Token, stack: &mut List<Frame>) -> Result<Stepp
         Word::Name => named_first(limits, token),
         Word::Number if wants_value(limits, stack) => {
             let (value, unsigned) = number(token.text.as_slice());
-            Ok(Stepped::Go(Reading::Read(Expr::Number {
-                place,
-                value,
-                unsigned,
-            })))
+            read(
+                limits,
+                Expr::Number {
+                    place,
+                    value,
+                    unsigned,
+                },
+            )
         }
         Word::Text if calls(stack.as_slice()) => Ok(Stepped::Go(Reading::Texts(place))),
         Word::Left if wants_value(limits, stack) => {
             push(limits.room, stack, Frame::InBracket(place))
         }
         Word::Left => push(limits.room, stack, Frame::InTarget(place)),
-        Word::Right => no_arguments(stack),
+        Word::Right => no_arguments(limits, stack),
         Word::Sign(op) => signed(limits, place, op, stack),
         Word::Step(op) if wants_value(limits, stack) => {
             push(limits.room, stack, Frame::AfterStep(place, op))
@@ -139,7 +157,7 @@ fn start(limits: Limits, token: &Token, stack: &mut List<Frame>) -> Result<Stepp
 }
 
 // A `,` behind an argument.
-fn next_argument(tree: Expr, stack: &mut List<Frame>) -> Result<Stepped, AllocError>
+fn next_argument(tree: Boxed<Expr>, stack: &mut List<Frame>) -> Result<Stepped, AllocError>
     ensures { IfOk result (λ r. spec.StepGives r stack.new (machine.next_argument tree (reverse stack.old)) (machine.Want [])) }
 {
     match pop_call(stack) {
@@ -149,10 +167,14 @@ fn next_argument(tree: Expr, stack: &mut List<Frame>) -> Result<Stepped, AllocEr
 }
 
 // Puts the call back, with one argument more.
-fn push_argument(mut call: Call, tree: Expr, stack: &mut List<Frame>) -> Result<Stepped, AllocError>
+fn push_argument(
+    mut call: Call,
+    tree: Boxed<Expr>,
+    stack: &mut List<Frame>,
+) -> Result<Stepped, AllocError>
     ensures { IfOk result (λ r. spec.StepGives r stack.new (machine.next_argument tree (Frame.InCall call.place call.name call.args ∷ reverse stack.old)) (machine.Want [])) }
 {
-    call.args.push(tree)?;
+    call.args.push(tree.into_inner())?;
     stack.push(Frame::InCall(call.place, call.name, call.args))?;
     Ok(Stepped::Go(Reading::Operand))
 }
@@ -161,13 +183,16 @@ fn push_argument(mut call: Call, tree: Expr, stack: &mut List<Frame>) -> Result<
 fn comma(
     limits: Limits,
     place: Place,
-    tree: Expr,
+    tree: Boxed<Expr>,
     stack: &mut List<Frame>,
 ) -> Result<Stepped, AllocError>
     ensures { IfOk result (λ r. spec.StepGives r stack.new (machine.comma limits.form limits.room place tree (reverse stack.old)) (machine.Have tree (reverse stack.old))) }
 {
     match pop_address(stack) {
-        Some(place) => next_argument(address(limits.alloc, place, tree)?, stack),
+        Some(place) => next_argument(
+            filled(limits.alloc, Frame::AfterAddress(place), tree)?,
+            stack,
+        ),
         None if calls(stack.as_slice()) => next_argument(tree, stack),
         None => push_over(
             limits.alloc,
@@ -183,49 +208,46 @@ fn comma(
 }
 
 // A `)` behind a call's last argument.
-fn last_argument(tree: Expr, stack: &mut List<Frame>) -> Result<Stepped, AllocError>
+fn last_argument(
+    limits: Limits,
+    tree: Boxed<Expr>,
+    stack: &mut List<Frame>,
+) -> Result<Stepped, AllocError>
     ensures { IfOk result (λ r. spec.StepGives r stack.new (machine.last_argument tree (reverse stack.old)) (machine.Want [])) }
 {
     match pop_call(stack) {
         None => stop(),
-        Some(call) => whole_call(call, tree),
+        Some(call) => read(limits, called(call, tree)?),
     }
-}
-
-// The call with its last argument.
-fn whole_call(mut call: Call, tree: Expr) -> Result<Stepped, AllocError>
-    ensures { IfOk result (λ r. r ≡ Stepped.Go (Reading.Read (machine.filled (Frame.InCall call.place call.name call.args) tree))) }
-{
-    call.args.push(tree)?;
-    Ok(Stepped::Go(Reading::Read(Expr::Call {
-        place: call.place,
-        name: call.name,
-        args: call.args,
-    })))
 }
 
 // A `)` behind an expression that is whole before it: behind an address, or at the end of a bracket or of a call.
-fn right(limits: Limits, tree: Expr, stack: &mut List<Frame>) -> Result<Stepped, AllocError>
+fn right(limits: Limits, tree: Boxed<Expr>, stack: &mut List<Frame>) -> Result<Stepped, AllocError>
     ensures { IfOk result (λ r. spec.StepGives r stack.new (machine.right tree (reverse stack.old)) (machine.Have tree (reverse stack.old))) }
 {
     if let Some(place) = pop_address(stack) {
-        return last_argument(address(limits.alloc, place, tree)?, stack);
+        let tree = filled(limits.alloc, Frame::AfterAddress(place), tree)?;
+        return last_argument(limits, tree, stack);
     }
     if let Some(place) = pop_bracket(stack) {
-        return Ok(Stepped::Go(Reading::Read(bracket(limits.alloc, place, tree)?)));
+        return read_filled(limits, Frame::InBracket(place), tree);
     }
     if let Some(place) = pop_target(stack) {
-        return Ok(Stepped::Go(Reading::Read(bracket(limits.alloc, place, tree)?)));
+        return read_filled(limits, Frame::InTarget(place), tree);
     }
     if calls(stack.as_slice()) {
-        last_argument(tree, stack)
+        last_argument(limits, tree, stack)
     } else {
         Ok(Stepped::Stop(finish_tree(limits.alloc, tree, stack)?))
     }
 }
 
 // A `]` behind an expression that is whole before it.
-fn right_square(limits: Limits, tree: Expr, stack: &mut List<Frame>) -> Result<Stepped, AllocError>
+fn right_square(
+    limits: Limits,
+    tree: Boxed<Expr>,
+    stack: &mut List<Frame>,
+) -> Result<Stepped, AllocError>
     ensures { IfOk result (λ r. spec.StepGives r stack.new (machine.right_square tree (reverse stack.old)) (machine.Have tree (reverse stack.old))) }
 {
     if !matches!(stack.as_slice().last(), Some(Frame::InIndex(_, _))) {
@@ -233,17 +255,12 @@ fn right_square(limits: Limits, tree: Expr, stack: &mut List<Frame>) -> Result<S
     }
     match pop_index(stack) {
         None => stop(),
-        Some((place, name)) => Ok(Stepped::Go(Reading::Read(index(
-            limits.alloc,
-            place,
-            name,
-            tree,
-        )?))),
+        Some((place, name)) => read_filled(limits, Frame::InIndex(place, name), tree),
     }
 }
 
 // A `:` behind an expression that is whole before it.
-fn colon(limits: Limits, tree: Expr, stack: &mut List<Frame>) -> Result<Stepped, AllocError>
+fn colon(limits: Limits, tree: Boxed<Expr>, stack: &mut List<Frame>) -> Result<Stepped, AllocError>
     ensures { IfOk result (λ r. spec.StepGives r stack.new (machine.colon tree (reverse stack.old)) (machine.Have tree (reverse stack.old))) }
 {
     if !matches!(stack.as_slice().last(), Some(Frame::AfterTest(_, _))) {
@@ -263,17 +280,23 @@ fn step_behind(
     limits: Limits,
     place: Place,
     op: StepOp,
-    tree: Expr,
+    tree: Boxed<Expr>,
     stack: &mut List<Frame>,
 ) -> Result<Stepped, AllocError>
     ensures { IfOk result (λ r. spec.StepGives r stack.new (machine.step_behind limits.form limits.room place op tree (reverse stack.old)) (machine.Have tree (reverse stack.old))) }
 {
-    if is_lvalue(&tree) && wants_value(limits, stack) && has_room(limits.room, &tree, stack) {
-        Ok(Stepped::Go(Reading::Read(Expr::StepAfter {
-            place,
-            op,
-            target: sqlite_items::Boxed::new(limits.alloc, tree)?,
-        })))
+    if is_lvalue(tree.get())
+        && wants_value(limits, stack)
+        && has_room(limits.room, tree.get(), stack)
+    {
+        read(
+            limits,
+            Expr::StepAfter {
+                place,
+                op,
+                target: tree,
+            },
+        )
     } else {
         Ok(Stepped::Stop(finish_tree(limits.alloc, tree, stack)?))
     }
@@ -284,12 +307,12 @@ fn assign(
     limits: Limits,
     place: Place,
     op: AssignOp,
-    tree: Expr,
+    tree: Boxed<Expr>,
     stack: &mut List<Frame>,
 ) -> Result<Stepped, AllocError>
     ensures { IfOk result (λ r. spec.StepGives r stack.new (machine.assign limits.form limits.room place op tree (reverse stack.old)) (machine.Have tree (reverse stack.old))) }
 {
-    if is_lvalue(&tree) {
+    if is_lvalue(tree.get()) {
         push_over(
             limits.alloc,
             limits.form,
@@ -312,7 +335,7 @@ fn operator(
     level: u32,
     opening: Opening,
     place: Place,
-    tree: Expr,
+    tree: Boxed<Expr>,
     stack: &mut List<Frame>,
 ) -> Result<Stepped, AllocError>
     ensures { IfOk result (λ r. spec.StepGives r stack.new (machine.over limits.form limits.room level (machine.close closing tree (reverse stack.old)) (spec.opened opening place)) (machine.Have tree (reverse stack.old))) }
@@ -335,7 +358,7 @@ fn closing(
     limits: Limits,
     word: Word,
     place: Place,
-    tree: Expr,
+    tree: Boxed<Expr>,
     stack: &mut List<Frame>,
 ) -> Result<Stepped, AllocError>
     requires { machine.shuts word ≡ true }
@@ -350,7 +373,7 @@ fn behind_closed(
     limits: Limits,
     word: Word,
     place: Place,
-    tree: Expr,
+    tree: Boxed<Expr>,
     stack: &mut List<Frame>,
 ) -> Result<Stepped, AllocError>
     requires { machine.shuts word ≡ true }
@@ -369,7 +392,7 @@ fn extend(
     limits: Limits,
     word: Word,
     place: Place,
-    tree: Expr,
+    tree: Boxed<Expr>,
     stack: &mut List<Frame>,
 ) -> Result<Stepped, AllocError>
     ensures { IfOk result (λ r. spec.StepGives r stack.new (machine.extend limits.form limits.room word place tree (reverse stack.old)) (machine.Have tree (reverse stack.old))) }
@@ -410,7 +433,10 @@ fn named(
     match word_of(token) {
         Word::LeftSquare => open_index(limits, place, name, stack),
         Word::Left => open_call(limits, place, name, stack),
-        word => extend(limits, word, token.place, Expr::Name { place, name }, stack),
+        word => {
+            let tree = Boxed::new(limits.alloc, Expr::Name { place, name })?;
+            extend(limits, word, token.place, tree, stack)
+        }
     }
 }
 
@@ -434,7 +460,7 @@ fn open_index(
         stack.push(Frame::InIndex(place, name))?;
         Ok(Stepped::Go(Reading::Operand))
     } else {
-        Ok(Stepped::Stop(finish_tree(limits.alloc, Expr::Name { place, name }, stack)?))
+        Ok(Stepped::Stop(finish_name(limits.alloc, place, name, stack)?))
     }
 }
 
@@ -451,18 +477,27 @@ fn open_call(
         stack.push(Frame::InCall(place, name, List::new(limits.alloc)))?;
         Ok(Stepped::Go(Reading::Operand))
     } else {
-        Ok(Stepped::Stop(finish_tree(limits.alloc, Expr::Name { place, name }, stack)?))
+        Ok(Stepped::Stop(finish_name(limits.alloc, place, name, stack)?))
     }
 }
 
 // A token behind an argument's texts.
-fn behind_texts(word: Word, place: Place, stack: &mut List<Frame>) -> Result<Stepped, AllocError>
+fn behind_texts(
+    limits: Limits,
+    word: Word,
+    place: Place,
+    stack: &mut List<Frame>,
+) -> Result<Stepped, AllocError>
     ensures { IfOk result (λ r. spec.StepGives r stack.new (machine.behind_texts word place (reverse stack.old)) (machine.Texts place (reverse stack.old))) }
 {
     match word {
         Word::Text => Ok(Stepped::Go(Reading::Texts(place))),
-        Word::Comma => next_argument(Expr::Text { place }, stack),
-        Word::Right => last_argument(Expr::Text { place }, stack),
+        Word::Comma => next_argument(Boxed::new(limits.alloc, Expr::Text { place })?, stack),
+        Word::Right => last_argument(
+            limits,
+            Boxed::new(limits.alloc, Expr::Text { place })?,
+            stack,
+        ),
         _ => stop(),
     }
 }
@@ -500,7 +535,7 @@ fn step(
         Reading::Operand => start(limits, token, stack),
         Reading::Name(place, name) => named(limits, token, place, name, stack),
         Reading::Read(tree) => extend(limits, word_of(token), token.place, tree, stack),
-        Reading::Texts(place) => behind_texts(word_of(token), place, stack),
+        Reading::Texts(place) => behind_texts(limits, word_of(token), place, stack),
         Reading::Type(place, kind, more) => behind_type(word_of(token), place, kind, more, stack),
     }
 }
@@ -548,12 +583,14 @@ pub fn expr(
 }
 
 // The tree, or the refusal at the place where the run ends.
-fn answer(tree: Option<Expr>, next: usize, place: Place) -> Result<(Expr, u32), Refusal>
+fn answer(tree: Option<Boxed<Expr>>, next: usize, place: Place) -> Result<(Expr, u32), Refusal>
     ensures { spec.Answers tree next place result }
 {
-    match (tree, u32::try_from(next)) {
-        (Some(tree), Ok(next)) => Ok((tree, next)),
-        (None, _) => Err(Refusal::Syntax(place)),
-        (Some(_), Err(_)) => Err(Refusal::OutOfMemory),
+    match tree {
+        None => Err(Refusal::Syntax(place)),
+        Some(tree) => match u32::try_from(next) {
+            Ok(next) => Ok((tree.into_inner(), next)),
+            Err(_) => Err(Refusal::OutOfMemory),
+        },
     }
 }

@@ -5,7 +5,8 @@ ghost use Rattle.c_expr.specs.Machine as machine;
 ghost use Rattle.c_expr.specs.Parser as spec;
 
 use crate::frame::{Frame, Opening, Reading, Stepped};
-use c_tree::{AssignOp, BinaryOp, Expr, StepOp, TypeWord, UnaryOp};
+use crate::tops::Call;
+use c_tree::{BinaryOp, Expr};
 use dg_base::{Bytes, List, Place};
 use sqlite_items::Boxed;
 use std::alloc::{AllocError, Global};
@@ -94,175 +95,97 @@ pub(crate) fn wants(form: u32, stack: &[Frame]) -> u32
     }
 }
 
-// A bracket round the tree.
-pub(crate) fn bracket(alloc: Global, place: Place, tree: Expr) -> Result<Expr, AllocError>
-    ensures { IfOk result (λ x. x ≡ machine.filled (Frame.InBracket place) tree) }
-{
-    Ok(Expr::Bracket {
-        place,
-        inner: Boxed::new(alloc, tree)?,
-    })
-}
-
-// A cell of an array.
-pub(crate) fn index(
-    alloc: Global,
-    place: Place,
-    name: Bytes,
-    tree: Expr,
-) -> Result<Expr, AllocError>
-    ensures { IfOk result (λ x. x ≡ machine.filled (Frame.InIndex place name) tree) }
-{
-    Ok(Expr::Index {
-        place,
-        name,
-        index: Boxed::new(alloc, tree)?,
-    })
-}
-
-// An address.
-pub(crate) fn address(alloc: Global, place: Place, tree: Expr) -> Result<Expr, AllocError>
-    ensures { IfOk result (λ x. x ≡ machine.filled (Frame.AfterAddress place) tree) }
-{
-    Ok(Expr::Address {
-        place,
-        target: Boxed::new(alloc, tree)?,
-    })
-}
-
-// A cast.
-fn cast(alloc: Global, place: Place, word: TypeWord, tree: Expr) -> Result<Expr, AllocError>
-    ensures { IfOk result (λ x. x ≡ machine.filled (Frame.AfterCast place word) tree) }
-{
-    Ok(Expr::Cast {
-        place,
-        word,
-        inner: Boxed::new(alloc, tree)?,
-    })
-}
-
-// A sign before the tree.
-fn signed(alloc: Global, place: Place, op: UnaryOp, tree: Expr) -> Result<Expr, AllocError>
-    ensures { IfOk result (λ x. x ≡ machine.filled (Frame.AfterSign place op) tree) }
-{
-    Ok(Expr::Unary {
-        place,
-        op,
-        inner: Boxed::new(alloc, tree)?,
-    })
-}
-
-// `++` or `--` before the tree.
-fn stepped(alloc: Global, place: Place, op: StepOp, tree: Expr) -> Result<Expr, AllocError>
-    ensures { IfOk result (λ x. x ≡ machine.filled (Frame.AfterStep place op) tree) }
-{
-    Ok(Expr::StepBefore {
-        place,
-        op,
-        target: Boxed::new(alloc, tree)?,
-    })
-}
-
-// An operator between the operands.
-fn binary(
-    alloc: Global,
-    place: Place,
-    op: BinaryOp,
-    left: Expr,
-    tree: Expr,
-) -> Result<Expr, AllocError>
-    ensures { IfOk result (λ x. x ≡ machine.filled (Frame.AfterOperator place op left) tree) }
-{
-    Ok(Expr::Binary {
-        place,
-        op,
-        left: Boxed::new(alloc, left)?,
-        right: Boxed::new(alloc, tree)?,
-    })
-}
-
-// A choice.
-fn choice(
-    alloc: Global,
-    place: Place,
-    test: Expr,
-    yes: Expr,
-    tree: Expr,
-) -> Result<Expr, AllocError>
-    ensures { IfOk result (λ x. x ≡ machine.filled (Frame.AfterChoice place test yes) tree) }
-{
-    Ok(Expr::Choose {
-        place,
-        test: Boxed::new(alloc, test)?,
-        yes: Boxed::new(alloc, yes)?,
-        no: Boxed::new(alloc, tree)?,
-    })
-}
-
-// An assignment.
-fn assignment(
-    alloc: Global,
-    place: Place,
-    op: AssignOp,
-    target: Expr,
-    tree: Expr,
-) -> Result<Expr, AllocError>
-    ensures { IfOk result (λ x. x ≡ machine.filled (Frame.AfterAssign place op target) tree) }
-{
-    Ok(Expr::Assign {
-        place,
-        op,
-        target: Boxed::new(alloc, target)?,
-        value: Boxed::new(alloc, tree)?,
-    })
-}
-
-// Two expressions with a comma between.
-fn sequence(alloc: Global, place: Place, left: Expr, tree: Expr) -> Result<Expr, AllocError>
-    ensures { IfOk result (λ x. x ≡ machine.filled (Frame.AfterComma place left) tree) }
-{
-    Ok(Expr::Comma {
-        place,
-        left: Boxed::new(alloc, left)?,
-        right: Boxed::new(alloc, tree)?,
-    })
-}
-
-/// The node with its last part.
-pub(crate) fn filled(alloc: Global, frame: Frame, tree: Expr) -> Result<Expr, AllocError>
+// The node with its last part, whose box is still to be made.
+fn node(frame: Frame, tree: Boxed<Expr>) -> Result<Expr, AllocError>
     ensures { IfOk result (λ x. x ≡ machine.filled frame tree) }
 {
     match frame {
-        Frame::InBracket(place) | Frame::InTarget(place) => bracket(alloc, place, tree),
-        Frame::InIndex(place, name) => index(alloc, place, name, tree),
-        Frame::InCall(place, name, args) => called(place, name, args, tree),
-        Frame::AfterAddress(place) => address(alloc, place, tree),
-        Frame::AfterCast(place, word) => cast(alloc, place, word, tree),
-        Frame::AfterSign(place, op) => signed(alloc, place, op, tree),
-        Frame::AfterStep(place, op) => stepped(alloc, place, op, tree),
-        Frame::AfterOperator(place, op, left) => binary(alloc, place, op, left, tree),
-        Frame::AfterTest(_, test) => Ok(test),
-        Frame::AfterChoice(place, test, yes) => choice(alloc, place, test, yes, tree),
-        Frame::AfterAssign(place, op, target) => assignment(alloc, place, op, target, tree),
-        Frame::AfterComma(place, left) => sequence(alloc, place, left, tree),
+        Frame::InBracket(place) | Frame::InTarget(place) => {
+            Ok(Expr::Bracket { place, inner: tree })
+        }
+        Frame::InIndex(place, name) => Ok(Expr::Index {
+            place,
+            name,
+            index: tree,
+        }),
+        Frame::InCall(place, name, args) => called(Call { place, name, args }, tree),
+        Frame::AfterAddress(place) => Ok(Expr::Address {
+            place,
+            target: tree,
+        }),
+        Frame::AfterCast(place, word) => Ok(Expr::Cast {
+            place,
+            word,
+            inner: tree,
+        }),
+        Frame::AfterSign(place, op) => Ok(Expr::Unary {
+            place,
+            op,
+            inner: tree,
+        }),
+        Frame::AfterStep(place, op) => Ok(Expr::StepBefore {
+            place,
+            op,
+            target: tree,
+        }),
+        Frame::AfterOperator(place, op, left) => Ok(Expr::Binary {
+            place,
+            op,
+            left,
+            right: tree,
+        }),
+        Frame::AfterTest(_, test) => Ok(test.into_inner()),
+        Frame::AfterChoice(place, test, yes) => Ok(Expr::Choose {
+            place,
+            test,
+            yes,
+            no: tree,
+        }),
+        Frame::AfterAssign(place, op, target) => Ok(Expr::Assign {
+            place,
+            op,
+            target,
+            value: tree,
+        }),
+        Frame::AfterComma(place, left) => Ok(Expr::Comma {
+            place,
+            left,
+            right: tree,
+        }),
     }
 }
 
-// The call with its last argument.
-fn called(place: Place, name: Bytes, mut args: List<Expr>, last: Expr) -> Result<Expr, AllocError>
-    ensures { IfOk result (λ x. x ≡ machine.filled (Frame.InCall place name args) last) }
+/// The call with its last argument.
+pub(crate) fn called(call: Call, last: Boxed<Expr>) -> Result<Expr, AllocError>
+    ensures { IfOk result (λ x. x ≡ machine.filled (Frame.InCall call.place call.name call.args) last) }
 {
-    args.push(last)?;
+    let Call {
+        place,
+        name,
+        mut args,
+    } = call;
+    args.push(last.into_inner())?;
     Ok(Expr::Call { place, name, args })
+}
+
+/// The node with its last part.
+pub(crate) fn filled(
+    alloc: Global,
+    frame: Frame,
+    tree: Boxed<Expr>,
+) -> Result<Boxed<Expr>, AllocError>
+    ensures { IfOk result (λ x. x ≡ machine.filled frame tree) }
+{
+    Boxed::new(alloc, node(frame, tree)?)
 }
 
 /// Closes each node that is whole before an operator of this level.
 pub(crate) fn close(
     alloc: Global,
     level: u32,
-    tree: Expr,
+    tree: Boxed<Expr>,
     stack: &mut List<Frame>,
-) -> Result<Expr, AllocError>
+) -> Result<Boxed<Expr>, AllocError>
     ensures { IfOk result (λ x. record { tree = x; stack = reverse stack.new } ≡ machine.close level tree (reverse stack.old)) }
 {
     let mut tree = tree;
@@ -288,22 +211,34 @@ pub(crate) fn finish(
     alloc: Global,
     reading: Reading,
     stack: &mut List<Frame>,
-) -> Result<Option<Expr>, AllocError>
+) -> Result<Option<Boxed<Expr>>, AllocError>
     ensures { IfOk result (λ done. done ≡ machine.finish (spec.seen reading stack.old)) }
 {
     match reading {
         Reading::Operand | Reading::Texts(_) | Reading::Type(_, _, _) => Ok(None),
-        Reading::Name(place, name) => finish_tree(alloc, Expr::Name { place, name }, stack),
+        Reading::Name(place, name) => finish_name(alloc, place, name, stack),
         Reading::Read(tree) => finish_tree(alloc, tree, stack),
     }
+}
+
+/// The tree of what has been read, where it is a whole text that ends in this name.
+pub(crate) fn finish_name(
+    alloc: Global,
+    place: Place,
+    name: Bytes,
+    stack: &mut List<Frame>,
+) -> Result<Option<Boxed<Expr>>, AllocError>
+    ensures { IfOk result (λ done. done ≡ machine.finish (machine.Named place name (reverse stack.old))) }
+{
+    finish_tree(alloc, Boxed::new(alloc, Expr::Name { place, name })?, stack)
 }
 
 /// The tree, with all nodes that wait for it, where it is a whole text.
 pub(crate) fn finish_tree(
     alloc: Global,
-    tree: Expr,
+    tree: Boxed<Expr>,
     stack: &mut List<Frame>,
-) -> Result<Option<Expr>, AllocError>
+) -> Result<Option<Boxed<Expr>>, AllocError>
     ensures { IfOk result (λ done. done ≡ machine.finish (machine.Have tree (reverse stack.old))) }
 {
     let tree = close(alloc, 0, tree, stack)?;
@@ -315,7 +250,7 @@ pub(crate) fn finish_tree(
 }
 
 // The node, with its first part.
-fn opened(opening: Opening, place: Place, tree: Expr) -> Frame
+fn opened(opening: Opening, place: Place, tree: Boxed<Expr>) -> Frame
     ensures { result ≡ spec.opened opening place tree }
 {
     match opening {
@@ -346,12 +281,12 @@ pub(crate) fn push_over(
     level: u32,
     opening: Opening,
     place: Place,
-    tree: Expr,
+    tree: Boxed<Expr>,
     stack: &mut List<Frame>,
 ) -> Result<Stepped, AllocError>
     ensures { IfOk result (λ r. spec.StepGives r stack.new (machine.over form room level (record { tree = tree; stack = reverse stack.old }) (spec.opened opening place)) (machine.Have tree (reverse stack.old))) }
 {
-    if wants(form, stack.as_slice()) <= level && has_room(room, &tree, stack) {
+    if wants(form, stack.as_slice()) <= level && has_room(room, tree.get(), stack) {
         stack.push(opened(opening, place, tree))?;
         Ok(Stepped::Go(Reading::Operand))
     } else {

@@ -5,6 +5,7 @@ ghost use Rattle.c_expr.specs.Machine as machine;
 use crate::frame::Frame;
 use c_tree::Expr;
 use dg_base::{Bytes, List, Place};
+use sqlite_items::Boxed;
 
 /// A call that waits for an argument.
 #[derive(Drop)]
@@ -94,7 +95,7 @@ pub(crate) fn pop_index(stack: &mut List<Frame>) -> Option<(Place, Bytes)>
 
 /// The place and the test of a choice on top of the stack, which is taken away; where another node stands there, the stack
 /// is lost.
-pub(crate) fn pop_test(stack: &mut List<Frame>) -> Option<(Place, Expr)>
+pub(crate) fn pop_test(stack: &mut List<Frame>) -> Option<(Place, Boxed<Expr>)>
     ensures some { IfSome result (λ r. reverse stack.old ≡ Frame.AfterTest r.0 r.1 ∷ reverse stack.new) }
     ensures none { IfNone result (machine.tests (reverse stack.old) ≡ false) }
 {

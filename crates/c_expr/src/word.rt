@@ -3,11 +3,11 @@ ghost use Rattle.std.specs.Prelude.{◌≡◌, Some, None};
 ghost use Rattle.c_expr.specs.Words as spelling;
 ghost use Rattle.c_tree.specs.declared.expr.AssignOp.TheVariants.{With};
 
-use c_token::{Token, TokenKind};
 use c_tree::{AssignOp, BinaryOp, StepOp, UnaryOp};
+use token_list::{Token, TokenKind};
 
 /// A word of which types consist.
-#[derive(Debug, Clone, Copy, PartialEq, Eq, Drop)]
+#[derive(Clone, Copy, Drop)]
 pub enum TypeName {
     /// `int`
     Int,
@@ -26,7 +26,7 @@ pub enum TypeName {
 }
 
 /// A word of statements and items.
-#[derive(Debug, Clone, Copy, PartialEq, Eq, Drop)]
+#[derive(Clone, Copy, Drop)]
 pub enum Keyword {
     /// `static`
     Static,
@@ -49,7 +49,7 @@ pub enum Keyword {
 }
 
 /// What a token is to the grammar.
-#[derive(Debug, Clone, Copy, PartialEq, Eq, Drop)]
+#[derive(Clone, Copy, Drop)]
 pub enum Word {
     /// A name that is no word of the grammar.
     Name,

@@ -3,7 +3,7 @@ use Rattle.std.proofs.Common.{ℕ, ◌+◌, ◌-◌, Bool, false, ◌&&◌, List
 use Rattle.std.specs.Prelude.{◌==◌}
 use Rattle.std.specs.List.{AllByRecursion}
 use Rattle.std.proofs.lemmas.Bool.{cond_both}
-use Rattle.c_token.specs.declared.Token.{Token}
+use Rattle.token_list.specs.declared.Token.{Token}
 use Rattle.c_token.specs.Dropping.{says, no_extern, past_semicolon, no_parameters, past_parameters, closes, no_attribute, past_attribute, past_group, is_dropped, no_words, kept}
 
 extern_all : (P : Token → Type 0) (ts : List Token) → AllByRecursion P ts → AllByRecursion P (no_extern ts) × AllByRecursion P (past_semicolon ts)

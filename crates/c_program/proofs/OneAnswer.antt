@@ -1,6 +1,6 @@
 -- A text is one checked program at most, and is not refused where it is accepted.
 use Rattle.std.proofs.Common.{◌≡◌, ℕ, Bool, List, Ok, sym, ap, ◌∙◌, subst}
-use Rattle.c_token.specs.declared.Tokens.{Tokens}
+use Rattle.token_list.specs.declared.Tokens.{Tokens}
 use Rattle.c_token.specs.Tokens.{answer}
 use Rattle.c_stmt.specs.Programs.{OneProgram, ReadsProgram}
 use Rattle.c_check.specs.declared.checked.Checked.{Checked}

@@ -2,8 +2,8 @@
 use Rattle.std.proofs.Common.{◌≡◌, ◌⊎◌, inl, inr, List, [], ◌∷◌, ◌++◌, sym, ap, ◌∙◌, subst, append_assoc}
 use Rattle.dg_base.specs.declared.Place.{Place}
 use Rattle.dg_base.specs.declared.refusal.Refusal.TheVariants as refusal
-use Rattle.c_token.specs.declared.Token.{Token}
-use Rattle.c_token.specs.declared.Tokens.{Tokens}
+use Rattle.token_list.specs.declared.Token.{Token}
+use Rattle.token_list.specs.declared.Tokens.{Tokens}
 use Rattle.c_expr.specs.Parser.{place_of}
 use Rattle.c_expr.proofs.OneRun.{IsFront, fronts}
 use Rattle.c_stmt.specs.Programs.{OneProgram, ReadsProgram, BeginsProgram, IsLongestStart, HasCause}

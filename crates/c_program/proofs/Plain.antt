@@ -6,10 +6,10 @@ use Rattle.std.proofs.lemmas.Bool.{cond_both}
 use Rattle.std.proofs.lemmas.Result.{IfOk-at_ok}
 use Rattle.dg_base.specs.declared.Place.{Place}
 use Rattle.dg_base.specs.declared.refusal.Refusal.{Refusal}
-use Rattle.c_token.specs.declared.Token.{Token}
-use Rattle.c_token.specs.declared.Tokens.{Tokens}
-use Rattle.c_token.specs.declared.TokenKind.{TokenKind}
-use Rattle.c_token.specs.declared.TokenKind.TheVariants.{Name, Text, Mark}
+use Rattle.token_list.specs.declared.Token.{Token}
+use Rattle.token_list.specs.declared.Tokens.{Tokens}
+use Rattle.token_list.specs.declared.TokenKind.{TokenKind}
+use Rattle.token_list.specs.declared.TokenKind.TheVariants.{Name, Text, Mark}
 use Rattle.c_token.specs.declared.pieces.Front.{Front}
 use Rattle.c_token.specs.declared.pieces.Mode.{Mode}
 use Rattle.c_token.specs.declared.pieces.Piece.{Piece}

@@ -2,7 +2,7 @@
 use Rattle.std.proofs.Common.{◌≡◌, ◌≢◌, List, ℕ, Result, Ok, Err, refl, sym, ◌∙◌, ⊎_elim}
 use Rattle.dg_base.specs.declared.refusal.Refusal.{Refusal}
 use Rattle.dg_base.specs.declared.refusal.Refusal.TheVariants as refusal
-use Rattle.c_token.specs.declared.Tokens.{Tokens}
+use Rattle.token_list.specs.declared.Tokens.{Tokens}
 use Rattle.c_token.specs.Tokens as lexing
 use Rattle.c_stmt.specs.Programs.{HasCause}
 use Rattle.c_program.specs.Accepting.{IsRefused, no_program}

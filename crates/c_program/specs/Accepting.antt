@@ -3,7 +3,7 @@ use Rattle.std.specs.Prelude.{◌≡◌, ◌≢◌, ℕ, Bool, List, Ok, Err}
 use Rattle.dg_base.specs.declared.Place.{Place}
 use Rattle.dg_base.specs.declared.refusal.Refusal.{Refusal}
 use Rattle.dg_base.specs.declared.refusal.Refusal.TheVariants.{Syntax, OutOfMemory}
-use Rattle.c_token.specs.declared.Tokens.{Tokens}
+use Rattle.token_list.specs.declared.Tokens.{Tokens}
 use Rattle.c_token.specs.Tokens.{answer}
 use Rattle.c_tree.specs.declared.program.Program.{Program}
 use Rattle.c_stmt.specs.Programs.{HasCause, ReadsProgram}

@@ -3,8 +3,8 @@ use Rattle.std.proofs.Common.{◌≡◌, ℕ, ◌-◌, ◌≤◌, true, List, []
 use Rattle.std.proofs.lemmas.List.{append-nil}
 use Rattle.dg_base.specs.declared.Place.{Place}
 use Rattle.dg_base.specs.declared.refusal.Refusal.TheVariants.{Syntax}
-use Rattle.c_token.specs.declared.Token.{Token}
-use Rattle.c_token.specs.declared.Tokens.{Tokens}
+use Rattle.token_list.specs.declared.Token.{Token}
+use Rattle.token_list.specs.declared.Tokens.{Tokens}
 use Rattle.c_tree.specs.declared.expr.Expr.{Expr}
 use Rattle.c_tree.specs.declared.program.Program.{Program}
 use Rattle.c_expr.specs.declared.form.ExprForm.{ExprForm}

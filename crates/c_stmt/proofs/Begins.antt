@@ -3,7 +3,7 @@ use Rattle.std.proofs.Common.{◌≡◌, ℕ, zero, suc, ◌+◌, true, false, L
 use Rattle.std.specs.Prelude.{codes, nat_le}
 use Rattle.std.proofs.lemmas.Bool.{leb-true}
 use Rattle.dg_base.specs.declared.Place.{Place}
-use Rattle.c_token.specs.declared.Token.{Token}
+use Rattle.token_list.specs.declared.Token.{Token}
 use Rattle.c_tree.specs.declared.expr.Expr.{Expr}
 use Rattle.c_tree.specs.declared.stmt.Stmt.{Stmt}
 use Rattle.c_tree.specs.declared.stmt.Stmt.TheVariants as tree
@@ -18,7 +18,7 @@ use Rattle.c_expr.specs.declared.word.Word.{Word}
 use Rattle.c_expr.specs.declared.word.Word.TheVariants as w
 use Rattle.c_expr.specs.Words.{mark, word, word_of, keyword_text, IsName}
 use Rattle.c_expr.specs.TypeWords.{first_word, may_grow}
-use Rattle.c_token.specs.Numbers.{is_unsigned}
+use Rattle.token_list.specs.Numbers.{is_unsigned}
 use Rattle.c_expr.specs.Expressions.{value_in, Reads, name, number, bracket, index, call, cast, prefix, step_before, step_after, binary, choose, assign, comma}
 use Rattle.c_expr.proofs.Spelled.{spelled}
 use Rattle.c_stmt.proofs.Labels.{label-name, label-number, label-bracket, label-index, label-call, label-cast, label-unary, label-step_before, label-step_after, label-binary, label-choose, label-assign, label-comma}

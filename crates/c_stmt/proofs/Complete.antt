@@ -2,7 +2,7 @@
 use Rattle.std.proofs.Common.{◌≡◌, ℕ, List, [], ◌∷◌, ◌++◌, Some, refl, sym, ap, ◌∙◌, subst, arith, append_assoc}
 use Rattle.std.specs.Prelude.{codes}
 use Rattle.std.proofs.lemmas.List.{append-nil}
-use Rattle.c_token.specs.declared.Token.{Token}
+use Rattle.token_list.specs.declared.Token.{Token}
 use Rattle.c_tree.specs.declared.program.Item.{Item}
 use Rattle.c_tree.specs.declared.program.Item.TheVariants as item
 use Rattle.c_tree.specs.declared.program.Program.{Program}

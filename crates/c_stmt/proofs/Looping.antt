@@ -4,8 +4,8 @@ use Rattle.std.proofs.lemmas.List.{drop_all}
 use Rattle.dg_base.specs.declared.refusal.Refusal.{Refusal}
 use Rattle.dg_base.specs.declared.refusal.Refusal.TheVariants as refusal
 use Rattle.dg_base.specs.declared.refusal.Refusal.TheVariants.{Syntax}
-use Rattle.c_token.specs.declared.Token.{Token}
-use Rattle.c_token.specs.declared.Tokens.{Tokens}
+use Rattle.token_list.specs.declared.Token.{Token}
+use Rattle.token_list.specs.declared.Tokens.{Tokens}
 use Rattle.c_tree.specs.declared.expr.Expr.{Expr}
 use Rattle.c_tree.specs.declared.program.Item.{Item}
 use Rattle.c_tree.specs.declared.program.Program.{Program}

@@ -2,7 +2,7 @@
 use Rattle.std.proofs.Common.{◌≡◌, ℕ, suc, false, List, [], ◌∷◌, ◌++◌, Option, sym, ap, subst, append_assoc}
 use Rattle.std.specs.Prelude.{codes}
 use Rattle.dg_base.specs.declared.Place.{Place}
-use Rattle.c_token.specs.declared.Token.{Token}
+use Rattle.token_list.specs.declared.Token.{Token}
 use Rattle.c_tree.specs.declared.expr.Expr.{Expr}
 use Rattle.c_tree.specs.declared.stmt.Start.{Start}
 use Rattle.c_tree.specs.declared.stmt.Stmt.{Stmt}

@@ -1,6 +1,6 @@
 -- Runs of the machine: what was read, and what is read to a program's end.
 use Rattle.std.proofs.Common.{◌≡◌, ℕ, ◌-◌, ◌≤◌, true, List, [], ◌∷◌, ◌++◌, Some, refl, sym, ap, ◌∙◌, subst, arith, append_assoc}
-use Rattle.c_token.specs.declared.Token.{Token}
+use Rattle.token_list.specs.declared.Token.{Token}
 use Rattle.c_tree.specs.declared.expr.Expr.{Expr}
 use Rattle.c_tree.specs.declared.program.Program.{Program}
 use Rattle.c_expr.specs.declared.form.ExprForm.{ExprForm}

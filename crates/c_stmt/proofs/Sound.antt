@@ -1,7 +1,7 @@
 -- What completes a state completes the tokens that led to it.
 use Rattle.std.proofs.Common.{◌≡◌, ℕ, ◌-◌, ◌≤◌, List, [], ◌∷◌, ◌++◌, Some, None, refl, sym, ap, ◌∙◌, subst, append_assoc}
 use Rattle.std.proofs.lemmas.List.{append-nil}
-use Rattle.c_token.specs.declared.Token.{Token}
+use Rattle.token_list.specs.declared.Token.{Token}
 use Rattle.c_tree.specs.declared.program.Program.{Program}
 use Rattle.c_expr.specs.Words.{word_of}
 use Rattle.c_stmt.specs.declared.state.Position.TheVariants as at

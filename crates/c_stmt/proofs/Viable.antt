@@ -2,9 +2,9 @@
 use Rattle.std.proofs.Common.{ℕ, zero, suc, List, [], ◌∷◌, ◌++◌, Option, Some, None, refl, sym}
 use Rattle.std.proofs.lemmas.List.{append-nil}
 use Rattle.dg_base.specs.declared.Place.{Place}
-use Rattle.c_token.specs.declared.Token.{Token}
-use Rattle.c_token.specs.declared.TokenKind.TheVariants as kind
-use Rattle.c_token.specs.Numbers.{is_unsigned}
+use Rattle.token_list.specs.declared.Token.{Token}
+use Rattle.token_list.specs.declared.TokenKind.TheVariants as kind
+use Rattle.token_list.specs.Numbers.{is_unsigned}
 use Rattle.c_tree.specs.declared.expr.TypeWord.TheVariants as type
 use Rattle.c_tree.specs.declared.expr.Expr.{Expr}
 use Rattle.c_tree.specs.declared.expr.Expr.TheVariants as e

@@ -7,7 +7,7 @@ use Rattle.c_tree.specs.declared.stmt.Initialiser.{Initialiser}
 use Rattle.c_tree.specs.declared.stmt.Initialiser.TheVariants as i
 use Rattle.c_tree.specs.declared.stmt.Declarator.{Declarator}
 use Rattle.c_tree.specs.declared.stmt.Decl.{Decl}
-use Rattle.c_token.specs.declared.Token.{Token}
+use Rattle.token_list.specs.declared.Token.{Token}
 use Rattle.c_expr.specs.Words.{mark, word, IsName}
 use Rattle.c_expr.specs.Expressions.{Reads, IsType}
 

@@ -4,8 +4,8 @@ use Rattle.std.specs.Prelude.{◌≡◌, Option, Some, None, ℕ, zero, suc, ◌
 use Rattle.dg_base.specs.declared.Place.{Place}
 use Rattle.dg_base.specs.declared.refusal.Refusal.{Refusal}
 use Rattle.dg_base.specs.declared.refusal.Refusal.TheVariants.{Syntax}
-use Rattle.c_token.specs.declared.Token.{Token}
-use Rattle.c_token.specs.declared.Tokens.{Tokens}
+use Rattle.token_list.specs.declared.Token.{Token}
+use Rattle.token_list.specs.declared.Tokens.{Tokens}
 use Rattle.c_tree.specs.declared.expr.TypeWord.{TypeWord}
 use Rattle.c_tree.specs.declared.expr.TypeWord.TheVariants as type
 use Rattle.c_tree.specs.declared.expr.AssignOp.TheVariants as assignment

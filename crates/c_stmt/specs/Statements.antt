@@ -8,7 +8,7 @@ use Rattle.c_tree.specs.declared.stmt.Start.TheVariants as start
 use Rattle.c_tree.specs.declared.stmt.Stmt.{Stmt, fold-Stmt}
 use Rattle.c_tree.specs.declared.stmt.Stmt.TheVariants as s
 use Rattle.c_tree.specs.declared.stmt.Stmt.TheOpen.{Stmt-F}
-use Rattle.c_token.specs.declared.Token.{Token}
+use Rattle.token_list.specs.declared.Token.{Token}
 use Rattle.c_expr.specs.Words.{mark, word, IsName}
 use Rattle.c_expr.specs.Expressions.{Reads}
 use Rattle.c_stmt.specs.Declarations.{ReadsOption, ReadsDeclaration}

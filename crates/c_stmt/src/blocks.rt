@@ -4,13 +4,13 @@ ghost use Rattle.c_expr.specs.Words.{word_of};
 ghost use Rattle.c_stmt.specs.Machine as machine;
 
 use crate::state::{Frame, Position, Read, Stepped, Tested};
-use crate::statements::{begin, push};
+use crate::statements::{begin, push, whole};
 use c_expr::{Keyword, Word, word_of};
-use c_token::Token;
 use c_tree::{Expr, Function, Item, Start, Stmt};
 use dg_base::{Bytes, List, Place};
 use sqlite_items::Boxed;
 use std::alloc::{AllocError, Global};
+use token_list::Token;
 
 // Whether a statement that waits for its last part is whole with it.
 fn closes(other: bool, frame: &Frame) -> bool
@@ -26,86 +26,47 @@ fn closes(other: bool, frame: &Frame) -> bool
     }
 }
 
-fn labelled(alloc: Global, place: Place, name: Bytes, body: Stmt) -> Result<Stmt, AllocError>
-    ensures { IfOk result (λ y. y ≡ machine.filled (Frame.AfterLabel place name) body) }
+// The expression, where there is one.
+fn unboxed(expr: Option<Boxed<Expr>>) -> Option<Expr>
+    ensures { result ≡ expr }
 {
-    Ok(Stmt::Label {
-        place,
-        name,
-        body: Boxed::new(alloc, body)?,
-    })
+    match expr {
+        None => None,
+        Some(expr) => Some(expr.into_inner()),
+    }
 }
 
-fn branch(alloc: Global, place: Place, test: Expr, yes: Stmt) -> Result<Stmt, AllocError>
-    ensures { IfOk result (λ y. y ≡ machine.filled (Frame.AfterIf place test) yes) }
-{
-    Ok(Stmt::If {
-        place,
-        test,
-        yes: Boxed::new(alloc, yes)?,
-        no: None,
-    })
-}
-
-fn branches(
-    alloc: Global,
-    place: Place,
-    test: Expr,
-    yes: Stmt,
-    no: Stmt,
-) -> Result<Stmt, AllocError>
-    ensures { IfOk result (λ y. y ≡ machine.filled (Frame.AfterElse place test yes) no) }
-{
-    Ok(Stmt::If {
-        place,
-        test,
-        yes: Boxed::new(alloc, yes)?,
-        no: Some(Boxed::new(alloc, no)?),
-    })
-}
-
-fn while_loop(alloc: Global, place: Place, test: Expr, body: Stmt) -> Result<Stmt, AllocError>
-    ensures { IfOk result (λ y. y ≡ machine.filled (Frame.AfterWhile place test) body) }
-{
-    Ok(Stmt::While {
-        place,
-        test,
-        body: Boxed::new(alloc, body)?,
-    })
-}
-
-fn for_loop(
-    alloc: Global,
-    place: Place,
-    start: Start,
-    test: Option<Expr>,
-    step: Option<Expr>,
-    body: Stmt,
-) -> Result<Stmt, AllocError>
-    ensures { IfOk result (λ y. y ≡ machine.filled (Frame.AfterFor place start test step) body) }
-{
-    Ok(Stmt::For {
-        place,
-        start,
-        test,
-        step,
-        body: Boxed::new(alloc, body)?,
-    })
-}
-
-// The statement with its last part.
-fn filled(alloc: Global, frame: Frame, body: Stmt) -> Result<Stmt, AllocError>
-    ensures { IfOk result (λ y. y ≡ machine.filled frame body) }
+// The statement with its last part, whose box is still to be made.
+fn node(frame: Frame, body: Boxed<Stmt>) -> Stmt
+    ensures { result ≡ machine.filled frame body }
 {
     match frame {
-        Frame::InFunction(_) | Frame::InBlock(_, _) | Frame::AfterDo(_) => Ok(body),
-        Frame::AfterLabel(place, name) => labelled(alloc, place, name, body),
-        Frame::AfterIf(place, test) => branch(alloc, place, test, body),
-        Frame::AfterElse(place, test, yes) => branches(alloc, place, test, yes, body),
-        Frame::AfterWhile(place, test) => while_loop(alloc, place, test, body),
-        Frame::AfterFor(place, start, test, step) => {
-            for_loop(alloc, place, start, test, step, body)
-        }
+        Frame::InFunction(_) | Frame::InBlock(_, _) | Frame::AfterDo(_) => body.into_inner(),
+        Frame::AfterLabel(place, name) => Stmt::Label { place, name, body },
+        Frame::AfterIf(place, test) => Stmt::If {
+            place,
+            test: test.into_inner(),
+            yes: body,
+            no: None,
+        },
+        Frame::AfterElse(place, test, yes) => Stmt::If {
+            place,
+            test: test.into_inner(),
+            yes,
+            no: Some(body),
+        },
+        Frame::AfterWhile(place, test) => Stmt::While {
+            place,
+            test: test.into_inner(),
+            body,
+        },
+        Frame::AfterFor(place, start, test, step) => Stmt::For {
+            place,
+            start: start.into_inner(),
+            test: unboxed(test),
+            step: unboxed(step),
+            body,
+        },
     }
 }
 
@@ -124,23 +85,27 @@ fn pop_whole(other: bool, stack: &mut List<Frame>) -> Option<Frame>
 fn close(
     alloc: Global,
     other: bool,
-    body: Stmt,
+    body: Boxed<Stmt>,
     stack: &mut List<Frame>,
-) -> Result<Stmt, AllocError>
+) -> Result<Boxed<Stmt>, AllocError>
     ensures { IfOk result (λ y. record { tree = y; stack = reverse stack.new } ≡ machine.close other body (reverse stack.old)) }
 {
     let mut body = body;
     while let Some(frame) = pop_whole(other, stack) {
-        body = filled(alloc, frame, body)?;
+        body = Boxed::new(alloc, node(frame, body))?;
     }
     Ok(body)
 }
 
 // A statement more in a function's outermost block.
-fn grow_function(mut function: Function, body: Stmt, read: &mut Read) -> Result<(), AllocError>
+fn grow_function(
+    mut function: Function,
+    body: Boxed<Stmt>,
+    read: &mut Read,
+) -> Result<(), AllocError>
     ensures { IfOk result (λ u. (read.new.items ≡ read.old.items) × (reverse read.new.stack ≡ Frame.InFunction (machine.with_statement function body) ∷ reverse read.old.stack)) }
 {
-    function.body.push(body)?;
+    function.body.push(body.into_inner())?;
     read.stack.push(Frame::InFunction(function))
 }
 
@@ -148,12 +113,12 @@ fn grow_function(mut function: Function, body: Stmt, read: &mut Read) -> Result<
 fn grow_block(
     place: Place,
     mut list: List<Stmt>,
-    body: Stmt,
+    body: Boxed<Stmt>,
     read: &mut Read,
 ) -> Result<(), AllocError>
     ensures { IfOk result (λ u. (read.new.items ≡ read.old.items) × (reverse read.new.stack ≡ Frame.InBlock place (list ++ body ∷ []) ∷ reverse read.old.stack)) }
 {
-    list.push(body)?;
+    list.push(body.into_inner())?;
     read.stack.push(Frame::InBlock(place, list))
 }
 
@@ -161,18 +126,15 @@ fn grow_block(
 fn behind_branch(
     word: Word,
     place: Place,
-    test: Expr,
-    yes: Stmt,
+    test: Boxed<Expr>,
+    yes: Boxed<Stmt>,
     read: &mut Read,
 ) -> Result<Stepped, AllocError>
     ensures { IfOk result (λ r. machine.StepGives r read.new (machine.behind_if word place test read.old.items yes (reverse read.old.stack))) }
 {
     match word {
         Word::Keyword(Keyword::Else) => push(read, Frame::AfterElse(place, test, yes)),
-        _ => {
-            drop((test, yes));
-            Ok(Stepped::Stop)
-        }
+        _ => Ok(Stepped::Stop),
     }
 }
 
@@ -180,7 +142,7 @@ fn behind_branch(
 fn behind_closed(
     alloc: Global,
     token: &Token,
-    body: Stmt,
+    body: Boxed<Stmt>,
     read: &mut Read,
 ) -> Result<Stepped, AllocError>
     ensures { IfOk result (λ r. machine.StepGives r read.new (machine.behind_closed (word_of token.now) token.now read.old.items body (reverse read.old.stack))) }
@@ -199,24 +161,21 @@ fn behind_closed(
         }
         Some(Frame::AfterDo(place)) => Ok(behind_do(word_of(token), place, body, read)),
         other => {
-            drop((other, body));
+            drop(other);
             Ok(Stepped::Stop)
         }
     }
 }
 
 // A token behind the statement of a `do`.
-fn behind_do(word: Word, place: Place, body: Stmt, read: &Read) -> Stepped
+fn behind_do(word: Word, place: Place, body: Boxed<Stmt>, read: &Read) -> Stepped
     ensures { machine.StepGives result read.now (machine.behind_do word place read.now.items body (reverse read.now.stack)) }
 {
     match word {
         Word::Keyword(Keyword::While) => {
             Stepped::Go(Position::BeforeTest(Tested::Do(place, body)))
         }
-        _ => {
-            drop(body);
-            Stepped::Stop
-        }
+        _ => Stepped::Stop,
     }
 }
 
@@ -231,7 +190,7 @@ fn is_else(word: Word) -> bool
 pub(crate) fn behind(
     alloc: Global,
     token: &Token,
-    body: Stmt,
+    body: Boxed<Stmt>,
     read: &mut Read,
 ) -> Result<Stepped, AllocError>
     ensures { IfOk result (λ r. machine.StepGives r read.new (machine.behind (word_of token.now) token.now read.old.items body (reverse read.old.stack))) }
@@ -241,7 +200,7 @@ pub(crate) fn behind(
 }
 
 /// A `}` where a statement may begin.
-pub(crate) fn block_ends(read: &mut Read) -> Result<Stepped, AllocError>
+pub(crate) fn block_ends(alloc: Global, read: &mut Read) -> Result<Stepped, AllocError>
     ensures { IfOk result (λ r. machine.StepGives r read.new (machine.block_ends read.old.items (reverse read.old.stack))) }
 {
     match read.stack.pop() {
@@ -249,9 +208,7 @@ pub(crate) fn block_ends(read: &mut Read) -> Result<Stepped, AllocError>
             read.items.push(Item::Function(function))?;
             Ok(Stepped::Go(Position::Top))
         }
-        Some(Frame::InBlock(place, body)) => {
-            Ok(Stepped::Go(Position::Whole(Stmt::Block { place, body })))
-        }
+        Some(Frame::InBlock(place, body)) => whole(alloc, Stmt::Block { place, body }),
         other => {
             drop(other);
             Ok(Stepped::Stop)

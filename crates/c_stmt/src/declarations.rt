@@ -4,11 +4,13 @@ ghost use Rattle.c_expr.specs.Words.{word_of};
 ghost use Rattle.c_stmt.specs.Machine as machine;
 
 use crate::state::{Head, Params, Position, Read, Site, Stepped};
+use crate::statements::{started, whole};
 use c_expr::{ExprForm, TypeName, Word, first_word, grown, may_grow, word_of};
-use c_token::Token;
 use c_tree::{AssignOp, Decl, Declarator, Expr, Initialiser, Item, Start, Stmt, TypeWord};
 use dg_base::{Bytes, List, Place};
+use sqlite_items::Boxed;
 use std::alloc::{AllocError, Global};
+use token_list::Token;
 
 // The nodes above an expression of a declarator, the declarator among them.
 fn above_declared(site: Site, read: &Read) -> usize
@@ -28,6 +30,7 @@ pub(crate) fn asks(read: &Read, form: ExprForm, above: usize, position: Position
     if above <= 200 {
         Stepped::Ask(position, form, above as u32)
     } else {
+        drop(position);
         Stepped::Stop
     }
 }
@@ -74,7 +77,7 @@ fn with_declarator(mut decl: Decl, declarator: Declarator) -> Result<Decl, Alloc
 }
 
 // A declaration that is whole.
-fn ended(site: Site, decl: Decl, read: &mut Read) -> Result<Stepped, AllocError>
+fn ended(alloc: Global, site: Site, decl: Decl, read: &mut Read) -> Result<Stepped, AllocError>
     ensures { IfOk result (λ r. machine.StepGives r read.new (machine.Go (machine.ended site decl read.old.items (reverse read.old.stack)))) }
 {
     match site {
@@ -82,35 +85,37 @@ fn ended(site: Site, decl: Decl, read: &mut Read) -> Result<Stepped, AllocError>
             read.items.push(Item::Shared(decl))?;
             Ok(Stepped::Go(Position::Top))
         }
-        Site::Block => Ok(Stepped::Go(Position::Whole(Stmt::Declare(decl)))),
-        Site::For(place) => Ok(Stepped::Go(Position::ForTest(place, Start::Declare(decl)))),
+        Site::Block => whole(alloc, Stmt::Declare(decl)),
+        Site::For(place) => started(alloc, place, Start::Declare(decl)),
     }
 }
 
 /// A token behind a declarator that is whole.
 pub(crate) fn valued(
+    alloc: Global,
     word: Word,
     site: Site,
     decl: Decl,
-    declarator: Declarator,
+    declarator: Boxed<Declarator>,
     read: &mut Read,
 ) -> Result<Stepped, AllocError>
     ensures { IfOk result (λ r. machine.StepGives r read.new (machine.valued word site decl declarator read.old.items (reverse read.old.stack))) }
 {
-    let decl = with_declarator(decl, declarator)?;
+    let decl = with_declarator(decl, declarator.into_inner())?;
     match word {
         Word::Comma => Ok(Stepped::Go(Position::Next(site, decl))),
-        Word::Semicolon => ended(site, decl, read),
+        Word::Semicolon => ended(alloc, site, decl, read),
         _ => Ok(Stepped::Stop),
     }
 }
 
 /// A token behind a declarator's size.
 pub(crate) fn sized(
+    alloc: Global,
     word: Word,
     site: Site,
     decl: Decl,
-    declarator: Declarator,
+    declarator: Boxed<Declarator>,
     read: &mut Read,
 ) -> Result<Stepped, AllocError>
     ensures { IfOk result (λ r. machine.StepGives r read.new (machine.sized word site decl declarator read.old.items (reverse read.old.stack))) }
@@ -119,24 +124,33 @@ pub(crate) fn sized(
         Word::Assign(AssignOp::Plain) => {
             Ok(Stepped::Go(Position::Value(site, decl, declarator)))
         }
-        _ => valued(word, site, decl, declarator, read),
+        _ => valued(alloc, word, site, decl, declarator, read),
     }
 }
 
 // A declarator without an initialiser.
-fn declarator_of(place: Place, name: Bytes, size: Option<Expr>) -> Declarator
-    ensures { result ≡ machine.declarator_of place name size }
+fn declarator_of(
+    alloc: Global,
+    place: Place,
+    name: Bytes,
+    size: Option<Expr>,
+) -> Result<Boxed<Declarator>, AllocError>
+    ensures { IfOk result (λ e. e ≡ machine.declarator_of place name size) }
 {
-    Declarator {
-        place,
-        name,
-        size,
-        initialiser: None,
-    }
+    Boxed::new(
+        alloc,
+        Declarator {
+            place,
+            name,
+            size,
+            initialiser: None,
+        },
+    )
 }
 
 /// A token behind a declarator's name.
 pub(crate) fn named(
+    alloc: Global,
     word: Word,
     site: Site,
     decl: Decl,
@@ -148,7 +162,10 @@ pub(crate) fn named(
 {
     match word {
         Word::LeftSquare => Ok(Stepped::Go(Position::Size(site, decl, place, name))),
-        _ => sized(word, site, decl, declarator_of(place, name, None), read),
+        _ => {
+            let declarator = declarator_of(alloc, place, name, None)?;
+            sized(alloc, word, site, decl, declarator, read)
+        }
     }
 }
 
@@ -185,7 +202,7 @@ pub(crate) fn first(
                 word: kind,
                 declarators: List::new(alloc),
             };
-            named(word, site, decl, place, name, read)
+            named(alloc, word, site, decl, place, name, read)
         }
     }
 }
@@ -228,7 +245,7 @@ pub(crate) fn value(
     word: Word,
     site: Site,
     decl: Decl,
-    declarator: Declarator,
+    declarator: Boxed<Declarator>,
     read: &Read,
 ) -> Stepped
     ensures { machine.StepGives result read.now (machine.value word site decl declarator read.now.items (reverse read.now.stack)) }
@@ -247,118 +264,130 @@ pub(crate) fn value(
 }
 
 // The declarator with its initialiser.
-fn with_initialiser(declarator: Declarator, first: Initialiser) -> Declarator
-    ensures { result ≡ machine.with_initialiser declarator first }
+fn with_initialiser(
+    alloc: Global,
+    declarator: Boxed<Declarator>,
+    first: Initialiser,
+) -> Result<Boxed<Declarator>, AllocError>
+    ensures { IfOk result (λ e. e ≡ machine.with_initialiser declarator first) }
 {
-    Declarator {
-        place: declarator.place,
-        name: declarator.name,
-        size: declarator.size,
-        initialiser: Some(first),
-    }
+    let Declarator {
+        place,
+        name,
+        size,
+        initialiser,
+    } = declarator.into_inner();
+    drop(initialiser);
+    Boxed::new(
+        alloc,
+        Declarator {
+            place,
+            name,
+            size,
+            initialiser: Some(first),
+        },
+    )
 }
 
 // A `}` between an initialiser's braces.
 fn braces_end(
+    alloc: Global,
     site: Site,
     decl: Decl,
-    declarator: Declarator,
+    declarator: Boxed<Declarator>,
     values: List<Expr>,
     read: &Read,
-) -> Stepped
-    ensures { machine.StepGives result read.now (machine.no_value values machine.Stop (machine.Go (machine.seen (Position.Valued site decl (machine.with_initialiser declarator (Initialiser.Braces values))) read.now))) }
+) -> Result<Stepped, AllocError>
+    ensures { IfOk result (λ r. machine.StepGives r read.now (machine.no_value values machine.Stop (machine.Go (machine.seen (Position.Valued site decl (machine.with_initialiser declarator (Initialiser.Braces values))) read.now)))) }
 {
     if values.as_slice().is_empty() {
-        return Stepped::Stop;
+        return Ok(Stepped::Stop);
     }
-    Stepped::Go(Position::Valued(
-        site,
-        decl,
-        with_initialiser(declarator, Initialiser::Braces(values)),
-    ))
+    let declarator = with_initialiser(alloc, declarator, Initialiser::Braces(values))?;
+    Ok(Stepped::Go(Position::Valued(site, decl, declarator)))
 }
 
 /// A token between an initialiser's braces.
 pub(crate) fn values(
+    alloc: Global,
     word: Word,
     site: Site,
     decl: Decl,
-    declarator: Declarator,
+    declarator: Boxed<Declarator>,
     values: List<Expr>,
     read: &Read,
-) -> Stepped
-    ensures { machine.StepGives result read.now (machine.values word site decl declarator values read.now.items (reverse read.now.stack)) }
+) -> Result<Stepped, AllocError>
+    ensures { IfOk result (λ r. machine.StepGives r read.now (machine.values word site decl declarator values read.now.items (reverse read.now.stack))) }
 {
     match word {
-        Word::RightBrace => braces_end(site, decl, declarator, values, read),
-        _ => asks(
+        Word::RightBrace => braces_end(alloc, site, decl, declarator, values, read),
+        _ => Ok(asks(
             read,
             ExprForm::Assign,
             above_declared(site, read),
             Position::Values(site, decl, declarator, values),
-        ),
+        )),
     }
 }
 
 /// The token behind an array's size.
 pub(crate) fn behind_size(
+    alloc: Global,
     word: Word,
     site: Site,
     decl: Decl,
     place: Place,
     name: Bytes,
-    size: Expr,
+    size: Boxed<Expr>,
     read: &Read,
-) -> Stepped
-    ensures { machine.StepGives result read.now (machine.behind_size word site decl place name size read.now.items (reverse read.now.stack)) }
+) -> Result<Stepped, AllocError>
+    ensures { IfOk result (λ r. machine.StepGives r read.now (machine.behind_size word site decl place name size read.now.items (reverse read.now.stack))) }
 {
-    let declarator = declarator_of(place, name, Some(size));
     match word {
-        Word::RightSquare => Stepped::Go(Position::Sized(site, decl, declarator)),
-        _ => Stepped::Stop,
+        Word::RightSquare => {
+            let declarator = declarator_of(alloc, place, name, Some(size.into_inner()))?;
+            Ok(Stepped::Go(Position::Sized(site, decl, declarator)))
+        }
+        _ => Ok(Stepped::Stop),
     }
 }
 
 /// The token behind an initialiser.
 pub(crate) fn behind_value(
+    alloc: Global,
     word: Word,
     site: Site,
     decl: Decl,
-    declarator: Declarator,
-    value: Expr,
+    declarator: Boxed<Declarator>,
+    value: Boxed<Expr>,
     read: &mut Read,
 ) -> Result<Stepped, AllocError>
     ensures { IfOk result (λ r. machine.StepGives r read.new (machine.behind_value word site decl declarator value read.old.items (reverse read.old.stack))) }
 {
-    valued(
-        word,
-        site,
-        decl,
-        with_initialiser(declarator, Initialiser::One(value)),
-        read,
-    )
+    let declarator = with_initialiser(alloc, declarator, Initialiser::One(value.into_inner()))?;
+    valued(alloc, word, site, decl, declarator, read)
 }
 
 /// The token behind a value between an initialiser's braces.
 pub(crate) fn behind_values(
+    alloc: Global,
     word: Word,
     site: Site,
     decl: Decl,
-    declarator: Declarator,
+    declarator: Boxed<Declarator>,
     mut values: List<Expr>,
-    value: Expr,
+    value: Boxed<Expr>,
     read: &Read,
 ) -> Result<Stepped, AllocError>
     ensures { IfOk result (λ r. machine.StepGives r read.now (machine.behind_values word site decl declarator values value read.now.items (reverse read.now.stack))) }
 {
-    values.push(value)?;
+    values.push(value.into_inner())?;
     match word {
         Word::Comma => Ok(Stepped::Go(Position::Values(site, decl, declarator, values))),
-        Word::RightBrace => Ok(Stepped::Go(Position::Valued(
-            site,
-            decl,
-            with_initialiser(declarator, Initialiser::Braces(values)),
-        ))),
+        Word::RightBrace => {
+            let declarator = with_initialiser(alloc, declarator, Initialiser::Braces(values))?;
+            Ok(Stepped::Go(Position::Valued(site, decl, declarator)))
+        }
         _ => Ok(Stepped::Stop),
     }
 }

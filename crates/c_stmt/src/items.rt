@@ -6,10 +6,10 @@ ghost use Rattle.c_stmt.specs.Machine as machine;
 use crate::declarations::type_begins;
 use crate::state::{Frame, Head, Params, Position, Read, Site, Stepped};
 use c_expr::{Keyword, TypeName, Word, first_word, grown, may_grow, word_of};
-use c_token::Token;
 use c_tree::{Function, Item, Param, TypeWord};
 use dg_base::{Bytes, List};
 use std::alloc::{AllocError, Global};
+use token_list::Token;
 
 /// A token between items.
 pub(crate) fn top(word: Word, read: &Read) -> Stepped

@@ -8,8 +8,9 @@
 //! still want completes them to a program within the depth, and what completes them is what the state wants. So what was
 //! read is always viable, and since a step never looks ahead, the run ends behind the longest viable prefix.
 //!
-//! A tree that a refusal leaves over is let go by a call of `drop`: a function at whose end a tree goes out of scope takes
-//! more memory to check than there is.
+//! Trees that wait are boxed, and what a refusal leaves over of a position or of a statement is let go by a call of `drop`:
+//! a function at whose end a tree itself goes out of scope takes far longer to check, since the drop of each of the tree's
+//! forms then stands in it.
 //!
 //! The layer above may use `parse` and its contract, the grammar, and the law that a list has at most one program.
 #![tactic(auto)]

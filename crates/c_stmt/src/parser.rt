@@ -17,10 +17,11 @@ use crate::statements::{
     left, returns, semicolon, test,
 };
 use c_expr::{ExprForm, expr, word_of};
-use c_token::{Token, Tokens};
 use c_tree::{Expr, Program, Start, Stmt};
 use dg_base::{List, Place, Refusal};
+use sqlite_items::Boxed;
 use std::alloc::{AllocError, Global};
+use token_list::{Token, Tokens};
 
 // One token of a declaration or of a header.
 fn step_outside(
@@ -40,16 +41,22 @@ fn step_outside(
             first(alloc, word, site, kind, place, name, read)
         }
         Position::Next(site, decl) => next(alloc, token, site, decl, read),
-        Position::Named(site, decl, place, name) => named(word, site, decl, place, name, read),
+        Position::Named(site, decl, place, name) => {
+            named(alloc, word, site, decl, place, name, read)
+        }
         Position::Size(site, decl, place, name) => Ok(size(site, decl, place, name, read)),
-        Position::Sized(site, decl, declarator) => sized(word, site, decl, declarator, read),
+        Position::Sized(site, decl, declarator) => {
+            sized(alloc, word, site, decl, declarator, read)
+        }
         Position::Value(site, decl, declarator) => {
             Ok(value(alloc, word, site, decl, declarator, read))
         }
         Position::Values(site, decl, declarator, list) => {
-            Ok(values(word, site, decl, declarator, list, read))
+            values(alloc, word, site, decl, declarator, list, read)
         }
-        Position::Valued(site, decl, declarator) => valued(word, site, decl, declarator, read),
+        Position::Valued(site, decl, declarator) => {
+            valued(alloc, word, site, decl, declarator, read)
+        }
         Position::Heading(head, depth, params) => heading(alloc, token, head, depth, params, read),
         Position::Headed(head, params) => headed(alloc, word, head, params, read),
         other => step_inside(alloc, token, other, read),
@@ -73,10 +80,10 @@ fn step_inside(
         Position::Test(tested) => Ok(test(tested, read)),
         Position::Semicolon(body) => Ok(semicolon(word, read, body)),
         Position::BeforeStart(place) => Ok(left(word, read, Position::ForStart(place))),
-        Position::ForStart(place) => Ok(for_start(word, place, read)),
+        Position::ForStart(place) => for_start(alloc, word, place, read),
         Position::ForTest(place, start) => Ok(for_test(word, place, start, read)),
         Position::ForStep(place, start, test) => for_step(word, place, start, test, read),
-        Position::Return(place) => Ok(returns(word, place, read)),
+        Position::Return(place) => returns(alloc, word, place, read),
         other => {
             drop(other);
             Ok(Stepped::Stop)
@@ -89,7 +96,7 @@ fn shut(
     alloc: Global,
     token: &Token,
     place: Place,
-    expr: Expr,
+    expr: Boxed<Expr>,
     position: Position,
     read: &mut Read,
 ) -> Result<Stepped, AllocError>
@@ -98,21 +105,20 @@ fn shut(
     let word = word_of(token);
     match position {
         Position::Size(site, decl, place, name) => {
-            Ok(behind_size(word, site, decl, place, name, expr, read))
+            behind_size(alloc, word, site, decl, place, name, expr, read)
         }
         Position::Value(site, decl, declarator) => {
-            behind_value(word, site, decl, declarator, expr, read)
+            behind_value(alloc, word, site, decl, declarator, expr, read)
         }
         Position::Values(site, decl, declarator, values) => {
-            behind_values(word, site, decl, declarator, values, expr, read)
+            behind_values(alloc, word, site, decl, declarator, values, expr, read)
         }
-        Position::Begin => behind_expression(word, place, expr, read),
+        Position::Begin => behind_expression(alloc, word, place, expr, read),
         Position::Test(tested) => behind_test(alloc, word, tested, expr, read),
-        Position::ForStart(place) => Ok(behind_part(
-            word,
-            read,
-            Position::ForTest(place, Start::Expr(expr)),
-        )),
+        Position::ForStart(place) => {
+            let start = Boxed::new(alloc, Start::Expr(expr.into_inner()))?;
+            Ok(behind_part(word, read, Position::ForTest(place, start)))
+        }
         Position::ForTest(place, start) => Ok(behind_part(
             word,
             read,
@@ -121,16 +127,13 @@ fn shut(
         Position::ForStep(place, start, test) => {
             behind_step(word, place, start, test, expr, read)
         }
-        Position::Return(place) => Ok(behind_part(
-            word,
-            read,
-            Position::Whole(Stmt::Return {
-                place,
-                value: Some(expr),
-            }),
-        )),
+        Position::Return(place) => {
+            let value = Some(expr.into_inner());
+            let body = Boxed::new(alloc, Stmt::Return { place, value })?;
+            Ok(behind_part(word, read, Position::Whole(body)))
+        }
         other => {
-            drop((other, expr));
+            drop(other);
             Ok(Stepped::Stop)
         }
     }
@@ -144,7 +147,7 @@ fn expression(
     next: usize,
     above: u32,
     form: ExprForm,
-) -> Result<(Expr, usize), Refusal>
+) -> Result<(Boxed<Expr>, usize), Refusal>
     requires inside { next ≤ length tokens.now.list }
     requires room { above ≤ 200 }
     ensures found { IfOk result (λ r. Finds (form_level form) (200 - above) tokens.now next r.0 r.1 × (r.1 < length tokens.now.list)) }
@@ -153,12 +156,17 @@ fn expression(
     let Ok(at) = u32::try_from(next) else {
         return Err(Refusal::OutOfMemory);
     };
-    match expr(alloc, tokens, at, above, form) {
-        Err(refusal) => Err(refusal),
-        Ok((tree, behind)) if (behind as usize) < tokens.list.len() => {
-            Ok((tree, behind as usize))
-        }
-        Ok(_) => Err(Refusal::Syntax(tokens.end)),
+    let (tree, behind) = match expr(alloc, tokens, at, above, form) {
+        Ok(found) => found,
+        Err(refusal) => return Err(refusal),
+    };
+    let Ok(tree) = Boxed::new(alloc, tree) else {
+        return Err(Refusal::OutOfMemory);
+    };
+    if (behind as usize) < tokens.list.len() {
+        Ok((tree, behind as usize))
+    } else {
+        Err(Refusal::Syntax(tokens.end))
     }
 }
 

@@ -1,8 +1,10 @@
-// What the parser keeps: the items that are whole, the statements that are not, and what it reads.
+// What the parser keeps: the items that are whole, the statements that are not, and what it reads. Parts that are trees are
+// boxed, so that a step moves and lets go of no more than a pointer.
 
 use c_expr::ExprForm;
 use c_tree::{Decl, Declarator, Expr, Function, Item, Param, Start, Stmt, TypeWord};
 use dg_base::{Bytes, List, Place};
+use sqlite_items::Boxed;
 
 /// A statement whose last part is still to be read, with the parts that are read.
 #[derive(Drop)]
@@ -14,19 +16,19 @@ pub enum Frame {
     /// Behind a label and `:`.
     AfterLabel(Place, Bytes),
     /// Behind `if` and its test.
-    AfterIf(Place, Expr),
+    AfterIf(Place, Boxed<Expr>),
     /// Behind `else`, with the test and the first branch.
-    AfterElse(Place, Expr, Stmt),
+    AfterElse(Place, Boxed<Expr>, Boxed<Stmt>),
     /// Behind `while` and its test.
-    AfterWhile(Place, Expr),
+    AfterWhile(Place, Boxed<Expr>),
     /// Behind `do`.
     AfterDo(Place),
     /// Behind a `for` and its header.
-    AfterFor(Place, Start, Option<Expr>, Option<Expr>),
+    AfterFor(Place, Boxed<Start>, Option<Boxed<Expr>>, Option<Boxed<Expr>>),
 }
 
 /// Where a declaration stands.
-#[derive(Debug, Clone, Copy, PartialEq, Eq, Drop)]
+#[derive(Clone, Copy, Drop)]
 pub enum Site {
     /// Between items.
     Item,
@@ -44,7 +46,7 @@ pub enum Tested {
     /// The `while` at this place.
     While(Place),
     /// The `do` at this place, with its statement.
-    Do(Place, Stmt),
+    Do(Place, Boxed<Stmt>),
 }
 
 /// A function's type and name, with the name's place.
@@ -91,13 +93,13 @@ pub enum Position {
     /// Behind the `[` of an array's size.
     Size(Site, Decl, Place, Bytes),
     /// Behind the `]` of an array's size.
-    Sized(Site, Decl, Declarator),
+    Sized(Site, Decl, Boxed<Declarator>),
     /// Behind the `=` of an initialiser.
-    Value(Site, Decl, Declarator),
+    Value(Site, Decl, Boxed<Declarator>),
     /// Between an initialiser's braces, behind these values.
-    Values(Site, Decl, Declarator, List<Expr>),
+    Values(Site, Decl, Boxed<Declarator>, List<Expr>),
     /// Behind a declarator that is whole.
-    Valued(Site, Decl, Declarator),
+    Valued(Site, Decl, Boxed<Declarator>),
     /// Behind a function's `(`, with as many brackets open inside.
     Heading(Head, u64, Params),
     /// Behind a function's `)`, with the parameters, if that is what its brackets hold.
@@ -105,21 +107,21 @@ pub enum Position {
     /// A statement is to come, or what else the block may go on with.
     Begin,
     /// A whole statement.
-    Whole(Stmt),
+    Whole(Boxed<Stmt>),
     /// Before the `(` of a test.
     BeforeTest(Tested),
     /// Behind the `(` of a test.
     Test(Tested),
     /// Before the `;` of this statement.
-    Semicolon(Stmt),
+    Semicolon(Boxed<Stmt>),
     /// Behind the `for` at this place.
     BeforeStart(Place),
     /// Behind the `(` of a `for`.
     ForStart(Place),
     /// Behind the first part of a `for`.
-    ForTest(Place, Start),
+    ForTest(Place, Boxed<Start>),
     /// Behind the second `;` of a `for`.
-    ForStep(Place, Start, Option<Expr>),
+    ForStep(Place, Boxed<Start>, Option<Boxed<Expr>>),
     /// Behind the `return` at this place.
     Return(Place),
 }

@@ -7,11 +7,11 @@ use crate::blocks::block_ends;
 use crate::declarations::{asks, type_begins};
 use crate::state::{Frame, Position, Read, Site, Stepped, Tested};
 use c_expr::{ExprForm, Keyword, Word, word_of};
-use c_token::Token;
 use c_tree::{Expr, Start, Stmt};
 use dg_base::{Bytes, List, Place};
 use sqlite_items::Boxed;
 use std::alloc::{AllocError, Global};
+use token_list::Token;
 
 // The nodes above an expression of a statement, that statement among them.
 fn above_part(read: &Read) -> usize
@@ -41,6 +41,7 @@ fn placed(read: &Read, position: Position) -> Stepped
     if has_room(read) {
         Stepped::Go(position)
     } else {
+        drop(position);
         Stepped::Stop
     }
 }
@@ -51,6 +52,20 @@ pub(crate) fn push(read: &mut Read, frame: Frame) -> Result<Stepped, AllocError>
 {
     read.stack.push(frame)?;
     Ok(Stepped::Go(Position::Begin))
+}
+
+/// A whole statement.
+pub(crate) fn whole(alloc: Global, body: Stmt) -> Result<Stepped, AllocError>
+    ensures { IfOk result (λ r. r ≡ Stepped.Go (Position.Whole body)) }
+{
+    Ok(Stepped::Go(Position::Whole(Boxed::new(alloc, body)?)))
+}
+
+// A statement that is whole but for its `;`.
+fn to_semicolon(alloc: Global, body: Stmt) -> Result<Position, AllocError>
+    ensures { IfOk result (λ p. p ≡ Position.Semicolon body) }
+{
+    Ok(Position::Semicolon(Boxed::new(alloc, body)?))
 }
 
 // The `do` of a loop, where there is room.
@@ -86,7 +101,12 @@ fn in_block(read: &Read) -> bool
 }
 
 // A word of statements where a statement may begin.
-fn keyword(keyword: Keyword, place: Place, read: &mut Read) -> Result<Stepped, AllocError>
+fn keyword(
+    alloc: Global,
+    keyword: Keyword,
+    place: Place,
+    read: &mut Read,
+) -> Result<Stepped, AllocError>
     ensures { IfOk result (λ r. machine.StepGives r read.new (machine.keyword keyword place read.old.items (reverse read.old.stack))) }
 {
     match keyword {
@@ -95,8 +115,8 @@ fn keyword(keyword: Keyword, place: Place, read: &mut Read) -> Result<Stepped, A
         Keyword::Do => do_begins(place, read),
         Keyword::For => Ok(placed(read, Position::BeforeStart(place))),
         Keyword::Return => Ok(placed(read, Position::Return(place))),
-        Keyword::Break => Ok(placed(read, Position::Semicolon(Stmt::Break { place }))),
-        Keyword::Continue => Ok(placed(read, Position::Semicolon(Stmt::Continue { place }))),
+        Keyword::Break => Ok(placed(read, to_semicolon(alloc, Stmt::Break { place })?)),
+        Keyword::Continue => Ok(placed(read, to_semicolon(alloc, Stmt::Continue { place })?)),
         Keyword::Static | Keyword::Else => Ok(Stepped::Stop),
     }
 }
@@ -107,10 +127,10 @@ pub(crate) fn begin(alloc: Global, token: &Token, read: &mut Read) -> Result<Ste
 {
     let place = token.place;
     match word_of(token) {
-        Word::Semicolon => Ok(Stepped::Go(Position::Whole(Stmt::Empty { place }))),
-        Word::RightBrace => block_ends(read),
+        Word::Semicolon => whole(alloc, Stmt::Empty { place }),
+        Word::RightBrace => block_ends(alloc, read),
         Word::LeftBrace => block_begins(alloc, place, read),
-        Word::Keyword(word) => keyword(word, place, read),
+        Word::Keyword(word) => keyword(alloc, word, place, read),
         Word::Type(name) if in_block(read) => Ok(type_begins(Site::Block, name, read)),
         Word::Type(_) => Ok(Stepped::Stop),
         _ => Ok(asks_part(read, Position::Begin)),
@@ -123,20 +143,20 @@ pub(crate) fn left(word: Word, read: &Read, position: Position) -> Stepped
 {
     match word {
         Word::Left => Stepped::Go(position),
-        _ => Stepped::Stop,
+        _ => {
+            drop(position);
+            Stepped::Stop
+        }
     }
 }
 
 /// Before the `;` of a statement.
-pub(crate) fn semicolon(word: Word, read: &Read, body: Stmt) -> Stepped
+pub(crate) fn semicolon(word: Word, read: &Read, body: Boxed<Stmt>) -> Stepped
     ensures { machine.StepGives result read.now (machine.semicolon word read.now.items (reverse read.now.stack) body) }
 {
     match word {
         Word::Semicolon => Stepped::Go(Position::Whole(body)),
-        _ => {
-            drop(body);
-            Stepped::Stop
-        }
+        _ => Stepped::Stop,
     }
 }
 
@@ -148,18 +168,30 @@ pub(crate) fn test(tested: Tested, read: &Read) -> Stepped
 }
 
 /// Behind the `(` of a `for`.
-pub(crate) fn for_start(word: Word, place: Place, read: &Read) -> Stepped
-    ensures { machine.StepGives result read.now (machine.for_start word place read.now.items (reverse read.now.stack)) }
+pub(crate) fn for_start(
+    alloc: Global,
+    word: Word,
+    place: Place,
+    read: &Read,
+) -> Result<Stepped, AllocError>
+    ensures { IfOk result (λ r. machine.StepGives r read.now (machine.for_start word place read.now.items (reverse read.now.stack))) }
 {
     match word {
-        Word::Semicolon => Stepped::Go(Position::ForTest(place, Start::Nothing)),
-        Word::Type(name) => type_begins(Site::For(place), name, read),
-        _ => asks_part(read, Position::ForStart(place)),
+        Word::Semicolon => started(alloc, place, Start::Nothing),
+        Word::Type(name) => Ok(type_begins(Site::For(place), name, read)),
+        _ => Ok(asks_part(read, Position::ForStart(place))),
     }
 }
 
+/// The first part of a `for` is whole.
+pub(crate) fn started(alloc: Global, place: Place, start: Start) -> Result<Stepped, AllocError>
+    ensures { IfOk result (λ r. r ≡ Stepped.Go (Position.ForTest place start)) }
+{
+    Ok(Stepped::Go(Position::ForTest(place, Boxed::new(alloc, start)?)))
+}
+
 /// Behind the first part of a `for`.
-pub(crate) fn for_test(word: Word, place: Place, start: Start, read: &Read) -> Stepped
+pub(crate) fn for_test(word: Word, place: Place, start: Boxed<Start>, read: &Read) -> Stepped
     ensures { machine.StepGives result read.now (machine.for_test word place start read.now.items (reverse read.now.stack)) }
 {
     match word {
@@ -172,8 +204,8 @@ pub(crate) fn for_test(word: Word, place: Place, start: Start, read: &Read) -> S
 pub(crate) fn for_step(
     word: Word,
     place: Place,
-    start: Start,
-    test: Option<Expr>,
+    start: Boxed<Start>,
+    test: Option<Boxed<Expr>>,
     read: &mut Read,
 ) -> Result<Stepped, AllocError>
     ensures { IfOk result (λ r. machine.StepGives r read.new (machine.for_step word place start test read.old.items (reverse read.old.stack))) }
@@ -185,42 +217,37 @@ pub(crate) fn for_step(
 }
 
 /// Behind `return`.
-pub(crate) fn returns(word: Word, place: Place, read: &Read) -> Stepped
-    ensures { machine.StepGives result read.now (machine.returns word place read.now.items (reverse read.now.stack)) }
+pub(crate) fn returns(
+    alloc: Global,
+    word: Word,
+    place: Place,
+    read: &Read,
+) -> Result<Stepped, AllocError>
+    ensures { IfOk result (λ r. machine.StepGives r read.now (machine.returns word place read.now.items (reverse read.now.stack))) }
 {
     match word {
-        Word::Semicolon => { Stepped::Go(Position::Whole(Stmt::Return { place, value: None })) }
-        _ => asks_part(read, Position::Return(place)),
+        Word::Semicolon => whole(alloc, Stmt::Return { place, value: None }),
+        _ => Ok(asks_part(read, Position::Return(place))),
     }
 }
 
 // The label that an expression before a `:` is, with its place.
 #[tactic(auto, using(crate::proofs::Labels::label_laws))]
-fn label_of(expr: Expr) -> Option<(Place, Bytes)>
+fn label_of(expr: Boxed<Expr>) -> Option<(Place, Bytes)>
     ensures some { IfSome result (λ l. machine.label_of expr ≡ Some (record { place = l.0; name = l.1 })) }
     ensures none { IfNone result (machine.label_of expr ≡ None) }
 {
-    match expr {
+    match expr.into_inner() {
         Expr::Name { place, name } => Some((place, name)),
-        Expr::Number { .. }
-        | Expr::Text { .. }
-        | Expr::Bracket { .. }
-        | Expr::Index { .. }
-        | Expr::Call { .. }
-        | Expr::Cast { .. }
-        | Expr::Unary { .. }
-        | Expr::StepBefore { .. }
-        | Expr::StepAfter { .. }
-        | Expr::Binary { .. }
-        | Expr::Choose { .. }
-        | Expr::Assign { .. }
-        | Expr::Comma { .. }
-        | Expr::Address { .. } => None,
+        other => {
+            drop(other);
+            None
+        }
     }
 }
 
 // The `:` behind an expression statement's expression.
-fn labelled(expr: Expr, read: &mut Read) -> Result<Stepped, AllocError>
+fn labelled(expr: Boxed<Expr>, read: &mut Read) -> Result<Stepped, AllocError>
     ensures { IfOk result (λ r. machine.StepGives r read.new (machine.labelled (machine.label_of expr) read.old.items (reverse read.old.stack))) }
 {
     match label_of(expr) {
@@ -231,15 +258,19 @@ fn labelled(expr: Expr, read: &mut Read) -> Result<Stepped, AllocError>
 
 /// The token behind an expression statement that begins at the place.
 pub(crate) fn behind_expression(
+    alloc: Global,
     word: Word,
     place: Place,
-    expr: Expr,
+    expr: Boxed<Expr>,
     read: &mut Read,
 ) -> Result<Stepped, AllocError>
     ensures { IfOk result (λ r. machine.StepGives r read.new (machine.behind_expression word place expr read.old.items (reverse read.old.stack))) }
 {
     match word {
-        Word::Semicolon => Ok(Stepped::Go(Position::Whole(Stmt::Expr { place, expr }))),
+        Word::Semicolon => {
+            let expr = expr.into_inner();
+            whole(alloc, Stmt::Expr { place, expr })
+        }
         Word::Colon => labelled(expr, read),
         _ => Ok(Stepped::Stop),
     }
@@ -250,36 +281,22 @@ pub(crate) fn behind_test(
     alloc: Global,
     word: Word,
     tested: Tested,
-    test: Expr,
+    test: Boxed<Expr>,
     read: &mut Read,
 ) -> Result<Stepped, AllocError>
     ensures { IfOk result (λ r. machine.StepGives r read.new (machine.behind_test word tested test read.old.items (reverse read.old.stack))) }
 {
     match word {
         Word::Right => tested_goes(alloc, tested, test, read),
-        _ => {
-            drop((tested, test));
-            Ok(Stepped::Stop)
-        }
+        _ => Ok(Stepped::Stop),
     }
-}
-
-// A `do` that is whole but for its `;`.
-fn done(alloc: Global, place: Place, body: Stmt, test: Expr) -> Result<Stepped, AllocError>
-    ensures { IfOk result (λ r. r ≡ Stepped.Go (Position.Semicolon (Stmt.DoWhile place body test))) }
-{
-    Ok(Stepped::Go(Position::Semicolon(Stmt::DoWhile {
-        place,
-        body: Boxed::new(alloc, body)?,
-        test,
-    })))
 }
 
 // The `)` behind a test.
 fn tested_goes(
     alloc: Global,
     tested: Tested,
-    test: Expr,
+    test: Boxed<Expr>,
     read: &mut Read,
 ) -> Result<Stepped, AllocError>
     ensures { IfOk result (λ r. machine.StepGives r read.new (machine.tested_goes tested test read.old.items (reverse read.old.stack))) }
@@ -287,7 +304,11 @@ fn tested_goes(
     match tested {
         Tested::If(place) => push(read, Frame::AfterIf(place, test)),
         Tested::While(place) => push(read, Frame::AfterWhile(place, test)),
-        Tested::Do(place, body) => done(alloc, place, body, test),
+        Tested::Do(place, body) => {
+            let test = test.into_inner();
+            let position = to_semicolon(alloc, Stmt::DoWhile { place, body, test })?;
+            Ok(Stepped::Go(position))
+        }
     }
 }
 
@@ -297,7 +318,10 @@ pub(crate) fn behind_part(word: Word, read: &Read, position: Position) -> Steppe
 {
     match word {
         Word::Semicolon => Stepped::Go(position),
-        _ => Stepped::Stop,
+        _ => {
+            drop(position);
+            Stepped::Stop
+        }
     }
 }
 
@@ -305,9 +329,9 @@ pub(crate) fn behind_part(word: Word, read: &Read, position: Position) -> Steppe
 pub(crate) fn behind_step(
     word: Word,
     place: Place,
-    start: Start,
-    test: Option<Expr>,
-    step: Expr,
+    start: Boxed<Start>,
+    test: Option<Boxed<Expr>>,
+    step: Boxed<Expr>,
     read: &mut Read,
 ) -> Result<Stepped, AllocError>
     ensures { IfOk result (λ r. machine.StepGives r read.new (machine.behind_step word place start test step read.old.items (reverse read.old.stack))) }

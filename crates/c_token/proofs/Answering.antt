@@ -5,7 +5,7 @@ use Rattle.std.proofs.lemmas.List.{take_all}
 use Rattle.dg_base.specs.declared.Place.{Place}
 use Rattle.dg_base.specs.declared.refusal.LimitKind.TheVariants.{Text, Macro, Tokens as TokenCount}
 use Rattle.dg_base.specs.declared.refusal.Refusal.TheVariants.{BadByte, Unsupported, Limit}
-use Rattle.c_token.specs.declared.Token.{Token}
+use Rattle.token_list.specs.declared.Token.{Token}
 use Rattle.c_token.specs.declared.sieve.TheConstants.{MAX_TOKENS}
 use Rattle.c_token.specs.Bytes.{capped}
 use Rattle.c_token.specs.Dropping.{kept}

@@ -1,7 +1,7 @@
 -- Each token fed to the sieve is taken from the front of what follows: what is left of all stays the same.
 use Rattle.std.proofs.Common.{◌≡◌, ◌+◌, ◌-◌, Bool, true, false, cond, not, ◌&&◌, List, [], ◌∷◌, ◌++◌, map, length, nat_eq, codes, refl, sym, ap, subst, ◌∙◌, append_assoc, append-nil}
 use Rattle.std.proofs.lemmas.Bool.{and_parts, both_ways}
-use Rattle.c_token.specs.declared.Token.{Token}
+use Rattle.token_list.specs.declared.Token.{Token}
 use Rattle.c_token.specs.declared.sieve.Group.{Group}
 use Rattle.c_token.specs.declared.sieve.Modes.{Modes}
 use Rattle.c_token.specs.declared.sieve.Params.{Params}

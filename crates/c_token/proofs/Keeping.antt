@@ -3,7 +3,7 @@ use Rattle.std.proofs.Common.{◌≡◌, ℕ, suc, ◌+◌, ◌-◌, ◌≤◌, 
 use Rattle.std.proofs.lemmas.Bool.{le-leb, lt-leb, cases_lt, cond_both, ltb-true, ltb-false}
 use Rattle.std.proofs.lemmas.List.{take-append-le, take_all, length-take-le}
 use Rattle.std.proofs.Math.Seq.{take-append-add, take-append_seam}
-use Rattle.c_token.specs.declared.Token.{Token}
+use Rattle.token_list.specs.declared.Token.{Token}
 use Rattle.c_token.specs.declared.sieve.Group.{Group}
 use Rattle.c_token.specs.declared.sieve.Modes.{Modes}
 use Rattle.c_token.specs.declared.sieve.TheConstants.{MAX_TOKENS}

@@ -1,6 +1,5 @@
 pub mod Marks
 pub mod Splitting
-pub mod Values
 pub mod Keeping
 pub mod Closing
 pub mod Sifting

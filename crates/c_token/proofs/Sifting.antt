@@ -1,6 +1,6 @@
 -- What comes of a list of tokens behind a state of the sieve: groups that may be closed.
 use Rattle.std.proofs.Common.{◌≡◌, ℕ, ◌+◌, Bool, true, false, cond, ◌&&◌, List, [], ◌∷◌, ◌++◌, nat_eq, Option, Some, None, is_some, codes, refl, sym, ap, ◌∙◌, append_assoc, zero-add}
-use Rattle.c_token.specs.declared.Token.{Token}
+use Rattle.token_list.specs.declared.Token.{Token}
 use Rattle.c_token.specs.Dropping.{says, no_attribute, past_attribute, is_dropped, no_words}
 use Rattle.c_token.specs.Sieving.{depth_behind}
 use Rattle.c_token.proofs.Closing.{behind_close, behind_group, then_close, closes_behind, past_group_behind, close_inner, behind_close_next, behind_close_now, attribute_no_left, attribute_no_right}

@@ -1,9 +1,9 @@
 -- What is left out of a list of tokens.
 use Rattle.std.specs.Prelude.{ℕ, ◌+◌, ◌-◌, Bool, true, false, not, ◌&&◌, ◌==◌, if◌then◌else◌, List, [], ◌∷◌, bytes_eq, codes}
 use Rattle.std.specs.List.{list_any}
-use Rattle.c_token.specs.declared.Token.{Token}
-use Rattle.c_token.specs.declared.TokenKind.{TokenKind}
-use Rattle.c_token.specs.declared.TokenKind.TheVariants.{Text}
+use Rattle.token_list.specs.declared.Token.{Token}
+use Rattle.token_list.specs.declared.TokenKind.{TokenKind}
+use Rattle.token_list.specs.declared.TokenKind.TheVariants.{Text}
 use Rattle.c_token.specs.Macros.{is_name}
 
 abbrev pub is_text : TokenKind → Bool

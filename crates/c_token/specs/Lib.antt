@@ -3,7 +3,6 @@ pub mod Pieces
 pub mod Seen
 pub mod Macros
 pub mod Dropping
-pub mod Numbers
 pub mod Tokens
 pub mod Sieving
 pub mod Tables

@@ -1,9 +1,9 @@
 -- Macros: from the segments of a text to its tokens, each macro replaced.
 use Rattle.std.specs.Prelude.{ℕ, ◌-◌, Bool, true, false, if◌then◌else◌, List, [], ◌∷◌, ◌++◌, map, length, drop, bytes_eq, Option, Some, None}
 use Rattle.dg_base.specs.declared.Place.{Place}
-use Rattle.c_token.specs.declared.Token.{Token}
-use Rattle.c_token.specs.declared.TokenKind.{TokenKind}
-use Rattle.c_token.specs.declared.TokenKind.TheVariants.{Name, Mark}
+use Rattle.token_list.specs.declared.Token.{Token}
+use Rattle.token_list.specs.declared.TokenKind.{TokenKind}
+use Rattle.token_list.specs.declared.TokenKind.TheVariants.{Name, Mark}
 use Rattle.c_token.specs.declared.pieces.Piece.{Piece}
 use Rattle.c_token.specs.declared.pieces.Piece.TheVariants.{Word, LineFeed, Define, Refused}
 use Rattle.c_token.specs.Pieces.{Segment}

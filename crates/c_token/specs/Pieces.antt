@@ -2,7 +2,7 @@
 use Rattle.std.specs.Prelude.{ℕ, zero, suc, ◌+◌, Bool, true, false, not, ◌&&◌, ◌==◌, nat_lt, if◌then◌else◌, List, [], ◌∷◌, length, take, drop, bytes_eq, Option, Some, None, Result, Ok, Err, codes}
 use Rattle.std.specs.List.{list_any, prefix_len}
 use Rattle.dg_base.specs.declared.Place.{Place}
-use Rattle.c_token.specs.declared.TokenKind.TheVariants.{Name, Number, Text, Mark}
+use Rattle.token_list.specs.declared.TokenKind.TheVariants.{Name, Number, Text, Mark}
 use Rattle.c_token.specs.declared.pieces.Front.{Front}
 use Rattle.c_token.specs.declared.pieces.Mode.{Mode}
 use Rattle.c_token.specs.declared.pieces.Mode.TheVariants.{LineStart, InLine, InMacro, Skipping}

@@ -1,7 +1,7 @@
 -- What contracts see of the values that borrow the text.
 use Rattle.std.specs.Prelude.{◌≡◌, List, map, Result, Ok, Err}
 use Rattle.dg_base.specs.declared.Place.{Place}
-use Rattle.c_token.specs.declared.Token.{Token}
+use Rattle.token_list.specs.declared.Token.{Token}
 use Rattle.c_token.specs.declared.words.Word.{Word}
 use Rattle.c_token.specs.declared.segments.Part.{Part}
 use Rattle.c_token.specs.declared.segments.Stuck.{Stuck}

@@ -1,6 +1,6 @@
 -- One pass over all tokens. No public contract cites these: the proofs tie them to what is left of a list.
 use Rattle.std.specs.Prelude.{ℕ, ◌+◌, ◌-◌, Bool, true, false, not, ◌&&◌, ◌==◌, nat_lt, nat_le, if◌then◌else◌, List, [], ◌∷◌, ◌++◌, map, reverse, take, Option, Some, None, option_map, codes}
-use Rattle.c_token.specs.declared.Token.{Token}
+use Rattle.token_list.specs.declared.Token.{Token}
 use Rattle.c_token.specs.declared.sieve.Found.{Found}
 use Rattle.c_token.specs.declared.sieve.Group.{Group}
 use Rattle.c_token.specs.declared.sieve.Modes.{Modes}

@@ -1,7 +1,7 @@
 -- Macros by number. No public contract cites these: the proofs tie them to what is read.
 use Rattle.std.specs.Prelude.{◌≡◌, ℕ, ◌<◌, ◌≤◌, Bool, true, nat_eq, nat_lt, if◌then◌else◌, IsTrue, List, [], ◌∷◌, map, length, bytes_eq, flat_map, slice_index_or, Option, Some, None}
 use Rattle.std.specs.List.{list_all}
-use Rattle.c_token.specs.declared.Token.{Token}
+use Rattle.token_list.specs.declared.Token.{Token}
 use Rattle.std.specs.HashMap.{get}
 use denote.Bor.{Bor}
 use lib.Pointwise.{pointwise}

@@ -4,15 +4,15 @@ use Rattle.dg_base.specs.declared.Place.{Place}
 use Rattle.dg_base.specs.declared.refusal.LimitKind.TheVariants.{Text, Macro, Tokens as TokenCount}
 use Rattle.dg_base.specs.declared.refusal.Refusal.{Refusal}
 use Rattle.dg_base.specs.declared.refusal.Refusal.TheVariants.{BadByte, Unsupported, Limit, OutOfMemory}
-use Rattle.c_token.specs.declared.Token.{Token}
-use Rattle.c_token.specs.declared.Tokens.{Tokens}
-use Rattle.c_token.specs.declared.TokenKind.{TokenKind}
-use Rattle.c_token.specs.declared.TokenKind.TheVariants as kind
+use Rattle.token_list.specs.declared.Token.{Token}
+use Rattle.token_list.specs.declared.Tokens.{Tokens}
+use Rattle.token_list.specs.declared.TokenKind.{TokenKind}
+use Rattle.token_list.specs.declared.TokenKind.TheVariants as kind
 use Rattle.c_token.specs.Bytes.{is_space, starts, capped}
 use Rattle.c_token.specs.Pieces.{Segment, all_segments, beginning, behind}
 use Rattle.c_token.specs.Macros.{Reading, nothing_read, read, bodies_of}
 use Rattle.c_token.specs.Dropping.{is_among, is_named, kept}
-use Rattle.c_token.specs.Numbers.{number_value}
+use Rattle.token_list.specs.Numbers.{number_value}
 
 abbrev pub unsupported_words : List (List ℕ)
 unsupported_words =

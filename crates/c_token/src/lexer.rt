@@ -1,7 +1,7 @@
 //! The tokens of a text, or why it has none.
 ghost use Rattle.std.specs.Prelude.{◌≡◌, ◌≤◌, List, map, take, length, find, option_map, None, Result, Err, IfOk};
 ghost use Rattle.dg_base.specs.declared.Place.{Place};
-ghost use Rattle.c_token.specs.declared.Token.{Token};
+ghost use Rattle.token_list.specs.declared.Token.{Token};
 ghost use Rattle.c_token.specs.Bytes.{capped};
 ghost use Rattle.c_token.specs.Dropping.{kept};
 ghost use Rattle.c_token.specs.Macros.{nothing_read, read};

@@ -1,7 +1,7 @@
 // Macros: from the pieces of a text to its tokens and the uses of its macros.
 ghost use Rattle.std.specs.Prelude.{◌≡◌, ◌≤◌, ◌++◌, IsTrue, List, [], ◌∷◌, map, length, IfOk, OnOk};
 ghost use Rattle.std.specs.HashMap.{get};
-ghost use Rattle.c_token.specs.declared.Token.{Token};
+ghost use Rattle.token_list.specs.declared.Token.{Token};
 ghost use Rattle.c_token.specs.Bytes.{capped};
 ghost use Rattle.c_token.specs.Seen.{segment, token};
 ghost use Rattle.c_token.specs.Macros.{Reading, bodies_of, all_at, nothing_read, replaced, add, begin, define, read_piece, read};

@@ -1,7 +1,7 @@
 // All tokens of a text, macros replaced, through the sieve. A long macro isn't written out: where it was passed before from
 // the same modes at the same place, it is passed at once.
 ghost use Rattle.std.specs.Prelude.{◌≡◌, ◌+◌, ◌≤◌, ◌<◌, List, [], ◌∷◌, map, length, replicate, Some, None, IfOk, OnOk, IfSome, IsTrue};
-ghost use Rattle.c_token.specs.declared.Token.{Token};
+ghost use Rattle.token_list.specs.declared.Token.{Token};
 ghost use Rattle.c_token.specs.Macros.{all_at};
 ghost use Rattle.c_token.specs.Seen.{token};
 ghost use Rattle.c_token.specs.Sieving.{state, feed_list};

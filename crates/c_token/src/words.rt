@@ -7,10 +7,10 @@ ghost use Rattle.c_token.specs.Seen.{token};
 ghost use Rattle.c_token.specs.Tokens.{is_unsupported_name, is_unsupported_number, is_unsupported, is_text_word, meant, shown};
 
 use crate::bytes::{is_space, starts};
-use crate::numbers::is_supported_number;
 use crate::{Token, TokenKind};
 use dg_base::{Bytes, OutOfMemory, Place};
 use std::alloc::Global;
+use token_list::is_supported_number;
 
 const DROPPED: [&str; 10] = [
     "volatile",

@@ -1,6 +1,6 @@
 use Rattle.std.proofs.Common.{List, length, option_map, sym, ap, ◌∙◌, arith}
 use Rattle.std.proofs.lemmas.List.{drop_all}
-use Rattle.c_token.specs.declared.Token.{Token}
+use Rattle.token_list.specs.declared.Token.{Token}
 use Rattle.c_token.specs.Bytes.{capped}
 use Rattle.c_token.specs.Tokens.{first_long}
 use Rattle.c_token.proofs.Limits.{long_here, long_next}

@@ -1,5 +1,5 @@
 use Rattle.std.proofs.Common.{◌≡◌, List, drop}
-use Rattle.c_token.specs.declared.Token.{Token}
+use Rattle.token_list.specs.declared.Token.{Token}
 use Rattle.c_token.specs.Tables.{IsTable}
 use Rattle.c_token.specs.Tokens.{first_long}
 use Rattle.c_token.proofs.lexer.first_long.Given as goal

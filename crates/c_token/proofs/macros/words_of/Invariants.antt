@@ -1,5 +1,5 @@
 use Rattle.std.proofs.Common.{◌≡◌, ◌≤◌, List, length, map, take}
-use Rattle.c_token.specs.declared.Token.{Token}
+use Rattle.token_list.specs.declared.Token.{Token}
 use Rattle.c_token.specs.Seen.{token}
 use Rattle.c_token.specs.Tables.{all_tokens, IsTable}
 use Rattle.c_token.proofs.macros.words_of.Given as goal

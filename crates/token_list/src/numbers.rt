@@ -1,6 +1,6 @@
 // The value of a number.
 ghost use Rattle.std.specs.Prelude.{◌≡◌, ◌^◌, ◌<◌, ◌≤◌, not, is_none};
-ghost use Rattle.c_token.specs.Numbers.{digit_of, value_of, below, plain_value, ends_in_u, number_value, is_unsigned};
+ghost use Rattle.token_list.specs.Numbers.{digit_of, value_of, below, plain_value, ends_in_u, number_value, is_unsigned};
 
 fn digit_of(b: u8) -> u8
     ensures value { result ≡ digit_of b }

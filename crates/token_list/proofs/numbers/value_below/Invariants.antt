@@ -1,6 +1,6 @@
 use Rattle.std.proofs.Common.{◌≡◌, ◌<◌, ◌^◌, drop}
-use Rattle.c_token.specs.Numbers.{value_from, value_of}
-use Rattle.c_token.proofs.numbers.value_below.Given as goal
+use Rattle.token_list.specs.Numbers.{value_from, value_of}
+use Rattle.token_list.proofs.numbers.value_below.Given as goal
 
 abbrev pub invariant-loop-b : goal.invariant-loop-b
 invariant-loop-b l = record {

@@ -2,7 +2,7 @@
 use Rattle.std.proofs.Common.{◌≡◌, ℕ, ◌+◌, ◌*◌, ◌<◌, ◌≤◌, Bool, true, false, cond, List, [], ◌∷◌, length, drop, get_or, nat_lt, Some, None, refl, ap, arith, drop-cons, add-one}
 use Rattle.std.proofs.lemmas.Bool.{ltb-true, le-ltb}
 use Rattle.std.proofs.Math.Nat.{mul-le-mul_left}
-use Rattle.c_token.specs.Numbers.{digit_of, value_from, value_of, below}
+use Rattle.token_list.specs.Numbers.{digit_of, value_from, value_of, below}
 
 -- more digits make no number smaller
 pub stays_large : (limit base n : ℕ) (bs : List ℕ) → limit ≤ n → below limit (value_from base n bs) ≡ None
