@@ -14,5 +14,3 @@ mod words;
 
 pub use form::{Form, FormCheck, FormThread, form_of};
 
-#[cfg(test)]
-mod tests;
