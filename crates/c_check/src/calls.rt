@@ -29,13 +29,21 @@ pub(crate) fn number_of(items: &[Item], name: &[u8]) -> Option<usize>
     None
 }
 
+// The function of a thread that an expression names, as the walk over calls has it.
+#[tactic(auto, using(crate::proofs::Namings::called_routine))]
+fn called_routine(expr: &Expr) -> Option<&Bytes>
+    ensures { option_copied result ≡ (calls.called expr.now).naming.routine }
+{
+    routine_name(expr)
+}
+
 // The function that the third of these expressions names.
-#[tactic(auto, using(crate::proofs::Namings::few_routines, crate::proofs::Namings::called_routine))]
+#[tactic(auto, using(crate::proofs::Namings::few_routines))]
 fn third_routine(args: &[Expr]) -> Option<&Bytes>
     ensures { option_copied result ≡ routines.third_routine (calls.namings (map calls.called args.now)) }
 {
     match args {
-        [_, _, third, ..] => routine_name(third),
+        [_, _, third, ..] => called_routine(third),
         _ => None,
     }
 }

@@ -84,6 +84,9 @@ fn tells_other_programs(rt: HostRuntime) {
         "int x; void *a(void *p) { x = 1; return 0; } int main() { pthread_t s; pthread_create(&s, 0, a, 0); assert(x == 1); pthread_join(s, 0); return 0; }",
         "int x; void *a(void *p) { x = 1; return 0; } int main() { pthread_t s; pthread_create(&s, 0, a, 0); pthread_join(s, 0); assert(x != 1); return 0; }",
     ] {
-        assert!(rt; is_of_the_form(rt.alloc(), text) == Some(false), "at {text}");
+        assert!(rt;
+            is_of_the_form(rt.alloc(), text) == Some(false),
+            "at {text}"
+        );
     }
 }

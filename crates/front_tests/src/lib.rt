@@ -10,6 +10,8 @@ mod expressions;
 #[cfg(test)]
 mod forms;
 #[cfg(test)]
+mod levels;
+#[cfg(test)]
 mod limits;
 #[cfg(test)]
 mod names;

@@ -1,8 +1,8 @@
 // Checked programs of texts.
 ghost use Rattle.std.specs.Prelude.{◌≤◌};
 
-use c_program::read_program;
 use c_check::Checked;
+use c_program::read_program;
 use dg_base::{LimitKind, Place, Refusal};
 use std::alloc::Global;
 use std::test::Fail;
