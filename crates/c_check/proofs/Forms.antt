@@ -12,7 +12,8 @@ use Rattle.c_tree.specs.declared.stmt.Stmt.{Stmt, fold-roll-Stmt}
 use Rattle.c_tree.specs.declared.stmt.Stmt.TheVariants as s
 use Rattle.c_tree.specs.declared.stmt.Stmt.TheOpen.{Stmt-F}
 use Rattle.c_rules.specs.Names.{Name}
-use Rattle.c_check.specs.Recursion.{Called, called, called_step, called_in, called_in_option, called_in_for, called_in_stmt, calls_step, all_called, names_in, created_by, namings}
+use Rattle.c_rules.specs.Routines.{created_by}
+use Rattle.c_check.specs.Recursion.{Called, called, called_step, called_in, called_in_option, called_in_for, called_in_stmt, calls_step, all_called, names_in, namings}
 
 pub called_name : (p : Place) (n : Name) → called_in (e.Name p n) ≡ []
 called_name p n = ap called_in (sym (e.rolls-Name p n)) ∙ ap (λ (c : Called). c.names) (fold-roll-Expr Called called_step (Expr-F.Name p n))

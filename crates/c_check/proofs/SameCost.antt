@@ -8,8 +8,9 @@ use Rattle.c_tree.specs.declared.expr.Expr.TheOpen.{Expr-F}
 use Rattle.c_tree.specs.declared.expr.Expr.TheFolds.{fold-roll-Expr, ind-Expr}
 use Rattle.c_rules.specs.declared.names.Variable.{Variable}
 use Rattle.c_rules.specs.Names.{Name}
+use Rattle.c_rules.specs.Routines.{created_by}
 use Rattle.c_check.specs.declared.counts.Counts.{Counts}
-use Rattle.c_check.specs.Recursion.{Called, called, called_step, called_in, namings, names_in, created_by, all_called}
+use Rattle.c_check.specs.Recursion.{Called, called, called_step, called_in, namings, names_in, all_called}
 use Rattle.c_check.specs.Counts.{exact, no_counts, Cost, cost, cost_step, reading, accessing, arguments, thread_of, access_to, access_by, first_accesses, operator_weight, assign_weight, assign_accesses, call}
 use Rattle.c_check.specs.Capped.{capped_counts, capped_sums}
 use Rattle.c_check.proofs.Capping.{both, more, capped-new_thread, capped-accesses, capped-weight}

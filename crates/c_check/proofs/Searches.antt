@@ -3,7 +3,7 @@ use Rattle.std.proofs.Common.{◌≡◌, ◌∙◌, ◌≢◌, ◌<◌, ◌⊎�
 use Rattle.std.specs.Prelude.{IsTrue, ◌↔◌}
 use Rattle.std.specs.List.{Contains}
 use Rattle.std.proofs.lemmas.List.Elements.{Contains-append_left, Contains-append_right, Contains-push, Contains-push_cases, Contains-append_cases}
-use Rattle.c_check.specs.declared.search.Search.{Search}
+use Rattle.c_check.specs.declared.reachability.Search.{Search}
 use Rattle.c_check.specs.Graph.{row_at, Path, one, next, IsClosed}
 use Rattle.c_check.specs.Searching.{is_marked, mark_one, mark_all, unmarked}
 

@@ -6,7 +6,7 @@ use Rattle.c_tree.specs.declared.expr.BinaryOp.{BinaryOp}
 use Rattle.c_tree.specs.declared.expr.BinaryOp.TheVariants as binary
 use Rattle.c_tree.specs.declared.expr.AssignOp.{AssignOp}
 use Rattle.c_tree.specs.declared.expr.AssignOp.TheVariants as assign
-use Rattle.c_tree.specs.declared.expr.Expr.{Expr, fold-Expr}
+use Rattle.c_tree.specs.declared.expr.Expr.{Expr, fold-Expr, map-Expr}
 use Rattle.c_tree.specs.declared.expr.Expr.TheOpen.{Expr-F}
 use Rattle.c_tree.specs.declared.stmt.Initialiser.{Initialiser}
 use Rattle.c_tree.specs.declared.stmt.Initialiser.TheVariants.{One, Braces}
@@ -18,7 +18,8 @@ use Rattle.c_rules.specs.declared.names.Entry.{Entry}
 use Rattle.c_rules.specs.Names.{Name, Scope, variable_named}
 use Rattle.c_rules.specs.Walk.{Walk, walk_body, declare, behind_item, top_scope}
 use Rattle.c_check.specs.declared.counts.Counts.{Counts}
-use Rattle.c_check.specs.Recursion.{Naming, names_nothing, is_name, in_brackets, behind_and, created_by, number_of}
+use Rattle.c_rules.specs.Routines.{Naming, naming_step, created_by}
+use Rattle.c_check.specs.Recursion.{number_of}
 
 abbrev pub no_counts : Counts
 no_counts = record { creates = 0; threads = 0; depth = 0; most = 0; accesses = 0; weight = 0 }
@@ -106,9 +107,6 @@ pub record Cost : Type 0 where
   pub bare : Bool
   pub naming : Naming
 
-abbrev pub parts_only : Counts → Cost
-parts_only x = record { access = no_counts; parts = x; bare = false; naming = names_nothing }
-
 -- the value of an expression
 abbrev pub reading : Sums → Cost → Counts
 reading sums x = sums.together x.access x.parts
@@ -140,25 +138,42 @@ abbrev pub call : Sums → (Name → Counts) → Name → List Cost → Counts
 call sums body n xs =
     sums.together (sums.together (sums.weight 1) (arguments sums (first_accesses n) xs)) (sums.together (body n) (thread_of sums body (created_by n (cost_namings xs))))
 
-abbrev pub cost_step : Sums → (Name → Counts) → (Name → Option Variable) → Expr-F Cost → Cost
-cost_step sums body variable (Expr-F.Name p n) = record { access = access_to sums (variable n); parts = no_counts; bare = false; naming = is_name n }
-cost_step sums body variable (Expr-F.Number p v u) = record { access = no_counts; parts = no_counts; bare = true; naming = names_nothing }
-cost_step sums body variable (Expr-F.Text p) = parts_only no_counts
-cost_step sums body variable (Expr-F.Bracket p x) = record { access = x.access; parts = x.parts; bare = false; naming = in_brackets x.naming }
-cost_step sums body variable (Expr-F.Index p n x) = record { access = access_to sums (variable n); parts = reading sums x; bare = false; naming = names_nothing }
-cost_step sums body variable (Expr-F.Call p n xs) = parts_only (call sums body n xs)
-cost_step sums body variable (Expr-F.Cast p w x) = parts_only (reading sums x)
-cost_step sums body variable (Expr-F.Unary p o x) = parts_only (sums.together (sums.weight 1) (reading sums x))
-cost_step sums body variable (Expr-F.StepBefore p o x) = parts_only (sums.together (sums.weight 1) (accessing sums 2 x))
-cost_step sums body variable (Expr-F.StepAfter p o x) = parts_only (sums.together (sums.weight 1) (accessing sums 2 x))
-cost_step sums body variable (Expr-F.Binary p o x y) =
+-- an expression's own part of its cost
+pub record Price : Type 0 where
+  pub access : Counts
+  pub parts : Counts
+  pub bare : Bool
+
+abbrev pub parts_only : Counts → Price
+parts_only x = record { access = no_counts; parts = x; bare = false }
+
+abbrev pub price : Sums → (Name → Counts) → (Name → Option Variable) → Expr-F Cost → Price
+price sums body variable (Expr-F.Name p n) = record { access = access_to sums (variable n); parts = no_counts; bare = false }
+price sums body variable (Expr-F.Number p v u) = record { access = no_counts; parts = no_counts; bare = true }
+price sums body variable (Expr-F.Text p) = parts_only no_counts
+price sums body variable (Expr-F.Bracket p x) = record { access = x.access; parts = x.parts; bare = false }
+price sums body variable (Expr-F.Index p n x) = record { access = access_to sums (variable n); parts = reading sums x; bare = false }
+price sums body variable (Expr-F.Call p n xs) = parts_only (call sums body n xs)
+price sums body variable (Expr-F.Cast p w x) = parts_only (reading sums x)
+price sums body variable (Expr-F.Unary p o x) = parts_only (sums.together (sums.weight 1) (reading sums x))
+price sums body variable (Expr-F.StepBefore p o x) = parts_only (sums.together (sums.weight 1) (accessing sums 2 x))
+price sums body variable (Expr-F.StepAfter p o x) = parts_only (sums.together (sums.weight 1) (accessing sums 2 x))
+price sums body variable (Expr-F.Binary p o x y) =
     parts_only (sums.together (sums.weight (operator_weight o y.bare)) (sums.together (reading sums x) (reading sums y)))
-cost_step sums body variable (Expr-F.Choose p x y z) =
+price sums body variable (Expr-F.Choose p x y z) =
     parts_only (sums.together (sums.weight 1) (sums.together (reading sums x) (sums.together (reading sums y) (reading sums z))))
-cost_step sums body variable (Expr-F.Assign p o x y) =
+price sums body variable (Expr-F.Assign p o x y) =
     parts_only (sums.together (sums.weight (assign_weight o y.bare)) (sums.together (accessing sums (assign_accesses o) x) (reading sums y)))
-cost_step sums body variable (Expr-F.Comma p x y) = parts_only (sums.together (reading sums x) (reading sums y))
-cost_step sums body variable (Expr-F.Address p x) = record { access = x.access; parts = x.parts; bare = false; naming = behind_and x.naming }
+price sums body variable (Expr-F.Comma p x y) = parts_only (sums.together (reading sums x) (reading sums y))
+price sums body variable (Expr-F.Address p x) = record { access = x.access; parts = x.parts; bare = false }
+
+abbrev pub cost_step : Sums → (Name → Counts) → (Name → Option Variable) → Expr-F Cost → Cost
+cost_step sums body variable l = record {
+  access = (price sums body variable l).access;
+  parts = (price sums body variable l).parts;
+  bare = (price sums body variable l).bare;
+  naming = naming_step (map-Expr Cost Naming (λ (x : Cost). x.naming) l);
+}
 
 abbrev pub cost : Sums → (Name → Counts) → (Name → Option Variable) → Expr → Cost
 cost sums body variable = fold-Expr Cost (cost_step sums body variable)

@@ -1,9 +1,9 @@
 -- Recursion: calls and creates lead from a function back to it.
-use Rattle.std.specs.Prelude.{◌≡◌, ℕ, ◌+◌, ◌<◌, List, [], ◌∷◌, ◌++◌, map, cond, slice_get, Option, Some, None, codes}
+use Rattle.std.specs.Prelude.{◌≡◌, ℕ, ◌+◌, ◌<◌, List, [], ◌∷◌, ◌++◌, map, cond, slice_get, Option, Some, None}
 use Rattle.std.specs.Str.{bytes_eq}
 use Rattle.std.specs.List.{Contains}
 use Rattle.dg_base.specs.declared.Place.{Place}
-use Rattle.c_tree.specs.declared.expr.Expr.{Expr, fold-Expr}
+use Rattle.c_tree.specs.declared.expr.Expr.{Expr, fold-Expr, map-Expr}
 use Rattle.c_tree.specs.declared.expr.Expr.TheOpen.{Expr-F}
 use Rattle.c_tree.specs.declared.stmt.Initialiser.{Initialiser}
 use Rattle.c_tree.specs.declared.stmt.Initialiser.TheVariants.{One, Braces}
@@ -16,44 +16,16 @@ use Rattle.c_tree.specs.declared.program.Function.{Function}
 use Rattle.c_tree.specs.declared.program.Item.{Item}
 use Rattle.c_tree.specs.declared.program.Item.TheVariants as item
 use Rattle.c_rules.specs.Names.{Name}
-
--- what an expression names: the name that it is in any brackets; the function of a thread, which it names alone or behind `&`
-pub record Naming : Type 0 where
-  pub plain : Option Name
-  pub routine : Option Name
-
-abbrev pub names_nothing : Naming
-names_nothing = record { plain = None; routine = None }
-
-abbrev pub is_name : Name → Naming
-is_name n = record { plain = Some n; routine = Some n }
-
-abbrev pub in_brackets : Naming → Naming
-in_brackets x = record { plain = x.plain; routine = None }
-
-abbrev pub behind_and : Naming → Naming
-behind_and x = record { plain = None; routine = x.plain }
+use Rattle.c_rules.specs.Routines.{Naming, naming_step, created_by}
 
 -- what an expression calls or creates threads of, and what it names
 pub record Called : Type 0 where
   pub names : List Name
   pub naming : Naming
 
-abbrev pub calls_only : List Name → Called
-calls_only ns = record { names = ns; naming = names_nothing }
-
--- the function that the third of these expressions names
-abbrev pub third_routine : List Naming → Option Name
-third_routine (v ∷ w ∷ f ∷ xs) = f.routine
-third_routine _ = None
-
 abbrev pub names_in : Option Name → List Name
 names_in None = []
 names_in (Some n) = n ∷ []
-
--- the function of the thread that a call makes, if it is one of pthread_create
-abbrev pub created_by : Name → List Naming → Option Name
-created_by n xs = cond (bytes_eq (codes "pthread_create") n) (third_routine xs) None
 
 abbrev pub namings : List Called → List Naming
 namings [] = []
@@ -63,22 +35,26 @@ abbrev pub all_called : List Called → List Name
 all_called [] = []
 all_called (x ∷ xs) = x.names ++ all_called xs
 
+-- the names that an expression calls or creates threads of, from its parts
+abbrev pub called_names : Expr-F Called → List Name
+called_names (Expr-F.Name p n) = []
+called_names (Expr-F.Number p v u) = []
+called_names (Expr-F.Text p) = []
+called_names (Expr-F.Bracket p x) = x.names
+called_names (Expr-F.Index p n x) = x.names
+called_names (Expr-F.Call p n xs) = all_called xs ++ (n ∷ names_in (created_by n (namings xs)))
+called_names (Expr-F.Cast p w x) = x.names
+called_names (Expr-F.Unary p o x) = x.names
+called_names (Expr-F.StepBefore p o x) = x.names
+called_names (Expr-F.StepAfter p o x) = x.names
+called_names (Expr-F.Binary p o x y) = x.names ++ y.names
+called_names (Expr-F.Choose p x y z) = x.names ++ (y.names ++ z.names)
+called_names (Expr-F.Assign p o x y) = x.names ++ y.names
+called_names (Expr-F.Comma p x y) = x.names ++ y.names
+called_names (Expr-F.Address p x) = x.names
+
 abbrev pub called_step : Expr-F Called → Called
-called_step (Expr-F.Name p n) = record { names = []; naming = is_name n }
-called_step (Expr-F.Number p v u) = calls_only []
-called_step (Expr-F.Text p) = calls_only []
-called_step (Expr-F.Bracket p x) = record { names = x.names; naming = in_brackets x.naming }
-called_step (Expr-F.Index p n x) = calls_only x.names
-called_step (Expr-F.Call p n xs) = calls_only (all_called xs ++ (n ∷ names_in (created_by n (namings xs))))
-called_step (Expr-F.Cast p w x) = calls_only x.names
-called_step (Expr-F.Unary p o x) = calls_only x.names
-called_step (Expr-F.StepBefore p o x) = calls_only x.names
-called_step (Expr-F.StepAfter p o x) = calls_only x.names
-called_step (Expr-F.Binary p o x y) = calls_only (x.names ++ y.names)
-called_step (Expr-F.Choose p x y z) = calls_only (x.names ++ (y.names ++ z.names))
-called_step (Expr-F.Assign p o x y) = calls_only (x.names ++ y.names)
-called_step (Expr-F.Comma p x y) = calls_only (x.names ++ y.names)
-called_step (Expr-F.Address p x) = record { names = x.names; naming = behind_and x.naming }
+called_step l = record { names = called_names l; naming = naming_step (map-Expr Called Naming (λ (x : Called). x.naming) l) }
 
 abbrev pub called : Expr → Called
 called = fold-Expr Called called_step

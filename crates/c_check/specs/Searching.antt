@@ -1,6 +1,6 @@
 -- A search for what numbers lead to; no public contract cites it.
 use Rattle.std.specs.Prelude.{ℕ, ◌+◌, List, [], ◌∷◌, ◌++◌, Bool, true, false, cond, slice_index_or, slice_set}
-use Rattle.c_check.specs.declared.search.Search.{Search}
+use Rattle.c_check.specs.declared.reachability.Search.{Search}
 
 abbrev pub is_marked : List Bool → ℕ → Bool
 is_marked marks v = slice_index_or marks v false

@@ -1,5 +1,5 @@
 -- What a well formed program is, and the first refusal of one that is not.
-use Rattle.std.specs.Prelude.{◌≡◌, ℕ, Some, None}
+use Rattle.std.specs.Prelude.{◌≡◌, ◌≤◌, ℕ, Some, None}
 use Rattle.dg_base.specs.declared.refusal.Refusal.{Refusal}
 use Rattle.dg_base.specs.declared.refusal.Refusal.TheVariants as refusal
 use Rattle.dg_base.specs.declared.refusal.LimitKind.{LimitKind}
@@ -61,8 +61,13 @@ IsFirstRefusal k program (refusal.BadByte p) = ⊥
 IsFirstRefusal k program (refusal.Unsupported p w) = ⊥
 IsFirstRefusal k program (refusal.Syntax p) = ⊥
 
+-- a bound of the loops: from 1 to 64
+abbrev pub IsBound : ℕ → Type 0
+IsBound k = (1 ≤ k) × (k ≤ 64)
+
 -- a checked program: it is well formed for its bound, and its lists are the program's
 pub record IsChecked (checked : Checked) : Type 0 where
+  pub bound : IsBound checked.k
   pub well_formed : IsWellFormed checked.k checked.program
   pub functions : checked.functions ≡ function_names checked.program
   pub cells : checked.cells ≡ cells_of checked.program

@@ -1,9 +1,11 @@
 // Which functions call which.
 ghost use Rattle.std.specs.Prelude.{◌≡◌, ◌++◌, ◌∷◌, ◌<◌, [], map, length, OnOk, IfOk, option_copied};
 ghost use Rattle.std.specs.Option.{IfSome};
+ghost use Rattle.c_rules.specs.Routines as routines;
 ghost use Rattle.c_check.specs.Recursion as calls;
 ghost use Rattle.c_check.specs.Graph.{numbers_of, callees_in, callees_of};
 
+use c_rules::routine_name;
 use c_tree::{Declarator, Expr, Function, Initialiser, Item, Start, Stmt};
 use dg_base::{Bytes, List, OutOfMemory};
 use std::alloc::Global;
@@ -27,66 +29,28 @@ pub(crate) fn number_of(items: &[Item], name: &[u8]) -> Option<usize>
     None
 }
 
-// The name that an expression is, in any brackets.
-fn plain_name(expr: &Expr) -> Option<&Bytes>
-    ensures { option_copied result ≡ (calls.called expr.now).naming.plain }
-{
-    match expr {
-        Expr::Name { name, .. } => Some(name),
-        Expr::Bracket { inner, .. } => plain_name(inner.get()),
-        Expr::Number { .. } => None,
-        Expr::Text { .. } => None,
-        Expr::Index { .. } => None,
-        Expr::Call { .. } => None,
-        Expr::Cast { .. } => None,
-        Expr::Unary { .. } => None,
-        Expr::StepBefore { .. } => None,
-        Expr::StepAfter { .. } => None,
-        Expr::Binary { .. } => None,
-        Expr::Choose { .. } => None,
-        Expr::Assign { .. } => None,
-        Expr::Comma { .. } => None,
-        Expr::Address { .. } => None,
-    }
-}
-
-// The function of a thread that an expression names, alone or behind `&`.
-fn routine_name(expr: &Expr) -> Option<&Bytes>
+// The function of a thread that an expression names, as the walk over calls has it.
+#[tactic(auto, using(crate::proofs::Namings::called_routine))]
+fn called_routine(expr: &Expr) -> Option<&Bytes>
     ensures { option_copied result ≡ (calls.called expr.now).naming.routine }
 {
-    match expr {
-        Expr::Name { name, .. } => Some(name),
-        Expr::Address { target, .. } => plain_name(target.get()),
-        Expr::Bracket { .. } => None,
-        Expr::Number { .. } => None,
-        Expr::Text { .. } => None,
-        Expr::Index { .. } => None,
-        Expr::Call { .. } => None,
-        Expr::Cast { .. } => None,
-        Expr::Unary { .. } => None,
-        Expr::StepBefore { .. } => None,
-        Expr::StepAfter { .. } => None,
-        Expr::Binary { .. } => None,
-        Expr::Choose { .. } => None,
-        Expr::Assign { .. } => None,
-        Expr::Comma { .. } => None,
-    }
+    routine_name(expr)
 }
 
 // The function that the third of these expressions names.
 #[tactic(auto, using(crate::proofs::Namings::few_routines))]
 fn third_routine(args: &[Expr]) -> Option<&Bytes>
-    ensures { option_copied result ≡ calls.third_routine (calls.namings (map calls.called args.now)) }
+    ensures { option_copied result ≡ routines.third_routine (calls.namings (map calls.called args.now)) }
 {
     match args {
-        [_, _, third, ..] => routine_name(third),
+        [_, _, third, ..] => called_routine(third),
         _ => None,
     }
 }
 
 /// The function of the thread that a call makes, if it is one of pthread_create.
 pub(crate) fn created_by<'a>(name: &[u8], args: &'a [Expr]) -> Option<&'a Bytes>
-    ensures { option_copied result ≡ calls.created_by name.now (calls.namings (map calls.called args.now)) }
+    ensures { option_copied result ≡ routines.created_by name.now (calls.namings (map calls.called args.now)) }
 {
     if b"pthread_create".as_slice() == name {
         third_routine(args)
@@ -114,7 +78,7 @@ impl<'a> Gatherer<'a> {
 
     #[tactic(auto, using(crate::proofs::Gathering::none_gathered))]
     fn created(&self, name: &[u8], args: &[Expr], into: &mut List<usize>) -> Result<(), OutOfMemory>
-        ensures { OnOk result (into.new ≡ into.old ++ numbers_of self.now.items.now (calls.names_in (calls.created_by name.now (calls.namings (map calls.called args.now))))) }
+        ensures { OnOk result (into.new ≡ into.old ++ numbers_of self.now.items.now (calls.names_in (routines.created_by name.now (calls.namings (map calls.called args.now))))) }
     {
         match created_by(name, args) {
             None => Ok(()),

@@ -8,18 +8,18 @@
 //! The layer above calls [`check`] alone.
 #![tactic(auto)]
 
-mod bodies;
 mod calls;
 mod checked;
-mod cost;
 mod counter;
 mod counts;
+mod expr_counts;
+mod function_counts;
 mod limits;
-mod lists;
+mod names_and_cells;
+mod reachability;
 mod recursion;
-mod search;
 mod sections;
-mod table;
+mod stmt_counts;
 mod well_formed;
 
 pub use checked::{CellInfo, Checked};
@@ -27,6 +27,3 @@ pub use counts::Counts;
 pub use limits::Exceeded;
 pub use sections::{Inside, Mark, first_unmatched};
 pub use well_formed::check;
-
-#[cfg(test)]
-mod tests;

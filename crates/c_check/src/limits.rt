@@ -24,10 +24,7 @@ pub struct Exceeded {
 fn first(one: Option<u32>, other: Option<u32>) -> Option<u32>
     ensures { result ≡ or_else one other }
 {
-    match one {
-        Some(number) => Some(number),
-        None => other,
-    }
+    one.or(other)
 }
 
 fn cells_of(size: &Option<Expr>) -> Option<u32>
@@ -195,9 +192,6 @@ pub(crate) fn first_exceeded(items: &[Item], counts: Counts) -> Option<Exceeded>
         shared_cells(items),
         exceeded_by(counts),
     );
-    let cells = match first_large_array(items) {
-        None => 0,
-        Some(cells) => cells,
-    };
+    let cells = first_large_array(items).unwrap_or(0);
     over(LimitKind::Cells, 32, cells, globals)
 }

@@ -4,7 +4,7 @@ ghost use Rattle.c_check.specs.Graph.{Path, IsClosed, edges_from, callees_of};
 ghost use Rattle.c_check.specs.Ordering.{IsRowOrder, IsCallOrder, IsRecursionRefusal};
 
 use crate::calls::callees_of;
-use crate::search::first_back;
+use crate::reachability::first_back;
 use axiom_model::{Acyclic, acyclic};
 use c_tree::Item;
 use dg_base::{List, OutOfMemory, Refusal};

@@ -116,20 +116,7 @@ fn mark_of(expr: &Expr) -> Mark
 {
     match expr {
         Expr::Call { place, name, .. } => call_mark(*place, name.as_slice()),
-        Expr::Name { .. } => Mark::Neither,
-        Expr::Number { .. } => Mark::Neither,
-        Expr::Text { .. } => Mark::Neither,
-        Expr::Bracket { .. } => Mark::Neither,
-        Expr::Index { .. } => Mark::Neither,
-        Expr::Cast { .. } => Mark::Neither,
-        Expr::Unary { .. } => Mark::Neither,
-        Expr::StepBefore { .. } => Mark::Neither,
-        Expr::StepAfter { .. } => Mark::Neither,
-        Expr::Binary { .. } => Mark::Neither,
-        Expr::Choose { .. } => Mark::Neither,
-        Expr::Assign { .. } => Mark::Neither,
-        Expr::Comma { .. } => Mark::Neither,
-        Expr::Address { .. } => Mark::Neither,
+        _ => Mark::Neither,
     }
 }
 
@@ -239,17 +226,7 @@ fn stmt_mark(stmt: &Stmt) -> Mark
 {
     match stmt {
         Stmt::Expr { expr, .. } => mark_of(expr),
-        Stmt::Empty { .. } => Mark::Neither,
-        Stmt::Declare(_) => Mark::Neither,
-        Stmt::Block { .. } => Mark::Neither,
-        Stmt::Label { .. } => Mark::Neither,
-        Stmt::If { .. } => Mark::Neither,
-        Stmt::While { .. } => Mark::Neither,
-        Stmt::DoWhile { .. } => Mark::Neither,
-        Stmt::For { .. } => Mark::Neither,
-        Stmt::Return { .. } => Mark::Neither,
-        Stmt::Break { .. } => Mark::Neither,
-        Stmt::Continue { .. } => Mark::Neither,
+        _ => Mark::Neither,
     }
 }
 

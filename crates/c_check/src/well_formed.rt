@@ -8,10 +8,10 @@ ghost use Rattle.c_check.specs.Rest.{KeepsRest, IsLimitRefusal, IsRestRefusal};
 
 use crate::checked::Checked;
 use crate::limits::first_exceeded;
-use crate::lists::{cells_of, function_names};
+use crate::names_and_cells::{cells_of, function_names};
 use crate::recursion::call_order;
 use crate::sections::first_unmatched;
-use crate::table::main_counts;
+use crate::function_counts::main_counts;
 use c_rules::{check_names, check_types};
 use c_tree::Program;
 use dg_base::{OutOfMemory, Refusal};

@@ -11,8 +11,6 @@
 
 mod laws;
 mod reading;
-#[cfg(test)]
-mod tests;
 
 pub use laws::{
     accepted_or_refused, names_are_plain, one_checked, one_program_of_text, one_refusal,

@@ -3,3 +3,4 @@ pub mod Growing
 pub mod Table
 pub mod Wholes
 pub mod JudgedTable
+pub mod Routines

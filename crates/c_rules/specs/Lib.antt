@@ -2,6 +2,7 @@ pub mod Names
 pub mod Walk
 pub mod Scopes
 pub mod BuiltIns
+pub mod Routines
 pub mod Types
 pub mod Naming
 pub mod Typing

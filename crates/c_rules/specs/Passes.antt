@@ -45,9 +45,9 @@ Gives (Ok v) f = f ≡ None
 Gives (Err e) f = Stops e f
 
 abbrev pub rules_of : Rule → List Item → Rules
-rules_of rule.Once items = once_rules
-rules_of rule.Known items = known_rules (functions_of items)
-rules_of rule.Typed items = typed_rules (functions_of items)
+rules_of rule.Redeclared items = once_rules
+rules_of rule.Undeclared items = known_rules (functions_of items)
+rules_of rule.Types items = typed_rules (functions_of items)
 
 -- the walk of a pass
 abbrev pub pass_walk : Rule → List Item → Walk First

@@ -19,6 +19,7 @@ use Rattle.c_rules.specs.declared.builtin.Role.TheVariants as role
 use Rattle.c_rules.specs.declared.names.Meaning.{Meaning}
 use Rattle.c_rules.specs.declared.names.Meaning.TheVariants as meaning
 use Rattle.c_rules.specs.Names.{Name, or_else, Scope, functions_of, meaning_of}
+use Rattle.c_rules.specs.Routines.{plain_name, routine_name}
 use Rattle.c_rules.specs.Walk.{walk_program, declare}
 use Rattle.c_rules.specs.Scopes.{First, unless, first_of, Rules, rule_walk, mutex_start, is_mutex}
 use Rattle.c_rules.specs.BuiltIns.{role_of, values, argument_count, has_value}
@@ -96,7 +97,7 @@ abbrev pub right_of_comma : Role → Role
 right_of_comma role.LeftOfComma = role.LeftOfComma
 right_of_comma _ = role.Value
 
--- the name of an lvalue's variable; the name that is an expression in any brackets
+-- the name of an lvalue's variable
 abbrev pub target_step : Expr-F (Option Name) → Option Name
 target_step (Expr-F.Name p n) = Some n
 target_step (Expr-F.Index p n x) = Some n
@@ -105,23 +106,6 @@ target_step _ = None
 
 abbrev pub target_name : Expr → Option Name
 target_name = fold-Expr (Option Name) target_step
-
-abbrev pub plain_step : Expr-F (Option Name) → Option Name
-plain_step (Expr-F.Name p n) = Some n
-plain_step (Expr-F.Bracket p x) = x
-plain_step _ = None
-
-abbrev pub plain_name : Expr → Option Name
-plain_name = fold-Expr (Option Name) plain_step
-
--- the function that the third argument of pthread_create names, alone or behind `&`
-abbrev pub routine_in : Expr-F Expr → Option Name
-routine_in (Expr-F.Name p n) = Some n
-routine_in (Expr-F.Address p x) = plain_name x
-routine_in _ = None
-
-abbrev pub routine_name : Expr → Option Name
-routine_name x = routine_in (out-Expr x)
 
 -- the variable whose address an argument is
 abbrev pub addressed_in : Expr-F Expr → Option Name

@@ -22,20 +22,7 @@ fn starts_mutex(expr: &Expr) -> bool
 {
     match expr {
         Expr::Name { name, .. } => is_mutex_start(name.as_slice()),
-        Expr::Number { .. } => false,
-        Expr::Text { .. } => false,
-        Expr::Bracket { .. } => false,
-        Expr::Index { .. } => false,
-        Expr::Call { .. } => false,
-        Expr::Cast { .. } => false,
-        Expr::Unary { .. } => false,
-        Expr::StepBefore { .. } => false,
-        Expr::StepAfter { .. } => false,
-        Expr::Binary { .. } => false,
-        Expr::Choose { .. } => false,
-        Expr::Assign { .. } => false,
-        Expr::Comma { .. } => false,
-        Expr::Address { .. } => false,
+        _ => false,
     }
 }
 
@@ -120,10 +107,7 @@ fn size_fits(size: &Option<Expr>) -> bool
 fn is_constant(constant: Option<Constant>) -> bool
     ensures { result ≡ types.is_constant constant }
 {
-    match constant {
-        None => false,
-        Some(_) => true,
-    }
+    constant.is_some()
 }
 
 // Whether a variable of this type may begin with the value.

@@ -9,8 +9,8 @@ ghost use Rattle.c_rules.specs.Typing.{IsTyped, IsTypeRefusal};
 ghost use Rattle.c_rules.specs.Passes.{Gives, Extends, rules_of, pass_walk};
 
 use crate::declared::broken_param;
-use crate::names::{Variable, builtin_named, function_named, may_be_defined};
-use crate::rules::{Pass, Rule, told, unless};
+use crate::names::{builtin_named, function_named, may_be_defined};
+use crate::rules::{Pass, Rule, fail_at, unless};
 use crate::scope::Scopes;
 use crate::stop::{Stop, earlier};
 use c_tree::{Function, Item, Param, Program};
@@ -55,15 +55,15 @@ impl<'a> Pass<'a> {
         ensures { result ≡ (rules_of self.now.rule self.now.items.now).head scope.now function.now }
     {
         match self.rule {
-            Rule::Once => earlier(
+            Rule::Redeclared => earlier(
                 unless(
                     self.may_name_function(scope, function.name.as_slice()),
                     function.place,
                 ),
                 repeated_param(function.params.as_slice()),
             ),
-            Rule::Known => None,
-            Rule::Typed => broken_param(function.params.as_slice()),
+            Rule::Undeclared => None,
+            Rule::Types => broken_param(function.params.as_slice()),
         }
     }
 
@@ -74,15 +74,7 @@ impl<'a> Pass<'a> {
         ensures scope { OnOk result (scope.new ≡ record scope.old { entries = scope.old.entries ++ (walk.param_entries (param.now ∷ [])) }) }
         ensures grown { OnOk result (Extends scope.old scope.new) }
     {
-        let variable = Variable {
-            word: param.word,
-            cells: None,
-            shared: false,
-        };
-        match scope.declare(self.alloc, param.name.as_slice(), Some(variable)) {
-            Ok(()) => Ok(()),
-            Err(_) => Err(Stop::OutOfMemory),
-        }
+        Ok(scope.declare_parameter(self.alloc, param)?)
     }
 
     // Declares a function's parameters.
@@ -104,7 +96,7 @@ impl<'a> Pass<'a> {
         ensures found { Gives result (walk.walk_item (pass_walk self.now.rule self.now.items.now) (item_form.Function function.now) scope.old) }
         ensures scope { OnOk result (scope.new ≡ scope.old) }
     {
-        told(self.head(scope, function))?;
+        fail_at(self.head(scope, function))?;
         self.body(scope, function)
     }
 
@@ -124,10 +116,7 @@ impl<'a> Pass<'a> {
         ensures none { Gives result None }
         ensures scope { OnOk result (scope.new ≡ walk.declare_function function.now scope.old) }
     {
-        match scope.declare(self.alloc, function.name.as_slice(), None) {
-            Ok(()) => Ok(()),
-            Err(_) => Err(Stop::OutOfMemory),
-        }
+        Ok(scope.declare_function(self.alloc, function)?)
     }
 
     #[tactic(auto, using(crate::proofs::Passing::passes, crate::proofs::Passing::goes_on, crate::proofs::Passing::none_in))]
@@ -183,12 +172,12 @@ pub fn check_names(alloc: Global, program: &Program) -> Result<(), Refusal>
     if !has_main(program) {
         return Err(Refusal::NoMain);
     }
-    match pass(alloc, Rule::Once, program) {
+    match pass(alloc, Rule::Redeclared, program) {
         Ok(()) => {}
         Err(Stop::Broken(place)) => return Err(Refusal::Duplicate(place)),
         Err(Stop::OutOfMemory) => return Err(Refusal::OutOfMemory),
     }
-    match pass(alloc, Rule::Known, program) {
+    match pass(alloc, Rule::Undeclared, program) {
         Ok(()) => Ok(()),
         Err(Stop::Broken(place)) => Err(Refusal::Unknown(place)),
         Err(Stop::OutOfMemory) => Err(Refusal::OutOfMemory),
@@ -202,7 +191,7 @@ pub fn check_names(alloc: Global, program: &Program) -> Result<(), Refusal>
 pub fn check_types(alloc: Global, program: &Program) -> Result<(), Refusal>
     ensures { MatchResult result (λ r. IsTyped program.now) (λ e. IsTypeRefusal program.now e) }
 {
-    match pass(alloc, Rule::Typed, program) {
+    match pass(alloc, Rule::Types, program) {
         Ok(()) => Ok(()),
         Err(Stop::Broken(place)) => Err(Refusal::BadType(place)),
         Err(Stop::OutOfMemory) => Err(Refusal::OutOfMemory),

@@ -28,10 +28,3 @@ pub use names::{Entry, Meaning, Variable, builtin_named, function_named};
 pub use rules::unless;
 pub use scope::{Outer, Scopes, meaning_of};
 pub use stop::earlier;
-
-#[cfg(test)]
-mod tests;
-#[cfg(test)]
-mod trees;
-#[cfg(test)]
-mod type_tests;

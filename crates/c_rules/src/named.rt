@@ -1,5 +1,6 @@
 // The names that rules ask expressions for.
 ghost use Rattle.std.specs.Prelude.{◌≡◌, option_copied};
+ghost use Rattle.c_rules.specs.Routines as routines;
 ghost use Rattle.c_rules.specs.Types as types;
 
 use c_tree::Expr;
@@ -13,64 +14,29 @@ pub fn target_name<'a>(expr: &'a Expr) -> Option<&'a Bytes>
         Expr::Name { name, .. } => Some(name),
         Expr::Index { name, .. } => Some(name),
         Expr::Bracket { inner, .. } => target_name(inner.get()),
-        Expr::Number { .. } => None,
-        Expr::Text { .. } => None,
-        Expr::Call { .. } => None,
-        Expr::Cast { .. } => None,
-        Expr::Unary { .. } => None,
-        Expr::StepBefore { .. } => None,
-        Expr::StepAfter { .. } => None,
-        Expr::Binary { .. } => None,
-        Expr::Choose { .. } => None,
-        Expr::Assign { .. } => None,
-        Expr::Comma { .. } => None,
-        Expr::Address { .. } => None,
+        _ => None,
     }
 }
 
 /// The name that an expression is, in any brackets; none for every other form.
 pub fn plain_name<'a>(expr: &'a Expr) -> Option<&'a Bytes>
-    ensures { option_copied result ≡ types.plain_name expr.now }
+    ensures { option_copied result ≡ routines.plain_name expr.now }
 {
     match expr {
         Expr::Name { name, .. } => Some(name),
         Expr::Bracket { inner, .. } => plain_name(inner.get()),
-        Expr::Index { .. } => None,
-        Expr::Number { .. } => None,
-        Expr::Text { .. } => None,
-        Expr::Call { .. } => None,
-        Expr::Cast { .. } => None,
-        Expr::Unary { .. } => None,
-        Expr::StepBefore { .. } => None,
-        Expr::StepAfter { .. } => None,
-        Expr::Binary { .. } => None,
-        Expr::Choose { .. } => None,
-        Expr::Assign { .. } => None,
-        Expr::Comma { .. } => None,
-        Expr::Address { .. } => None,
+        _ => None,
     }
 }
 
 /// The function that the third argument of `pthread_create` names, alone or behind `&`; none for every other form.
 pub fn routine_name<'a>(expr: &'a Expr) -> Option<&'a Bytes>
-    ensures { option_copied result ≡ types.routine_name expr.now }
+    ensures { option_copied result ≡ routines.routine_name expr.now }
 {
     match expr {
         Expr::Name { name, .. } => Some(name),
         Expr::Address { target, .. } => plain_name(target.get()),
-        Expr::Bracket { .. } => None,
-        Expr::Index { .. } => None,
-        Expr::Number { .. } => None,
-        Expr::Text { .. } => None,
-        Expr::Call { .. } => None,
-        Expr::Cast { .. } => None,
-        Expr::Unary { .. } => None,
-        Expr::StepBefore { .. } => None,
-        Expr::StepAfter { .. } => None,
-        Expr::Binary { .. } => None,
-        Expr::Choose { .. } => None,
-        Expr::Assign { .. } => None,
-        Expr::Comma { .. } => None,
+        _ => None,
     }
 }
 
@@ -80,19 +46,6 @@ pub fn addressed_name<'a>(expr: &'a Expr) -> Option<&'a Bytes>
 {
     match expr {
         Expr::Address { target, .. } => target_name(target.get()),
-        Expr::Name { .. } => None,
-        Expr::Bracket { .. } => None,
-        Expr::Index { .. } => None,
-        Expr::Number { .. } => None,
-        Expr::Text { .. } => None,
-        Expr::Call { .. } => None,
-        Expr::Cast { .. } => None,
-        Expr::Unary { .. } => None,
-        Expr::StepBefore { .. } => None,
-        Expr::StepAfter { .. } => None,
-        Expr::Binary { .. } => None,
-        Expr::Choose { .. } => None,
-        Expr::Assign { .. } => None,
-        Expr::Comma { .. } => None,
+        _ => None,
     }
 }

@@ -6,34 +6,13 @@ ghost use Rattle.c_rules.specs.Walk as walk;
 ghost use Rattle.c_rules.specs.Passes.{Gives, Extends, rules_of, pass_walk};
 
 use crate::declared::declarator_fits;
-use crate::names::Variable;
-use crate::rules::{Pass, Rule, told, unless};
+use crate::rules::{Pass, Rule, fail_at, unless};
 use crate::scope::Scopes;
 use crate::stop::Stop;
-use c_tree::{Declarator, Expr, Start, Stmt, TypeWord, constant_value};
+use c_tree::{Declarator, Expr, Start, Stmt, TypeWord};
 use dg_base::Place;
 
 impl<'a> Pass<'a> {
-    // Declares a variable.
-    fn push(&self, scope: &mut Scopes, word: TypeWord, declarator: &Declarator) -> Result<(), Stop>
-        ensures none { OnOk result (scope.new ≡ walk.declare word declarator.now scope.old) }
-        ensures broken { Gives result None }
-    {
-        let cells = match &declarator.size {
-            None => None,
-            Some(size) => Some(constant_value(size)),
-        };
-        let variable = Variable {
-            word,
-            cells,
-            shared: scope.is_top(),
-        };
-        match scope.declare(self.alloc, declarator.name.as_slice(), Some(variable)) {
-            Ok(()) => Ok(()),
-            Err(_) => Err(Stop::OutOfMemory),
-        }
-    }
-
     // A declarator, and then the variable is in scope.
     #[tactic(auto, using(crate::proofs::Passing::passes, crate::proofs::Passing::goes_on, crate::proofs::Passing::none_in, crate::proofs::Passing::rest))]
     fn declarator(
@@ -46,23 +25,23 @@ impl<'a> Pass<'a> {
         ensures scope { OnOk result (scope.new ≡ walk.declare word declarator.now scope.old) }
     {
         match self.rule {
-            Rule::Once => {
+            Rule::Redeclared => {
                 let is_new = !scope.declares(declarator.name.as_slice());
-                told(unless(is_new, declarator.place))?;
-                self.push(scope, word, declarator)
+                fail_at(unless(is_new, declarator.place))?;
+                Ok(scope.declare_variable(self.alloc, word, declarator)?)
             }
-            Rule::Known => {
-                told(self.unknown_in_size(scope, &declarator.size))?;
-                self.push(scope, word, declarator)?;
+            Rule::Undeclared => {
+                fail_at(self.unknown_in_size(scope, &declarator.size))?;
+                scope.declare_variable(self.alloc, word, declarator)?;
                 let starts_mutex = is_mutex(word);
-                told(self.unknown_in_start(scope, starts_mutex, &declarator.initialiser))
+                fail_at(self.unknown_in_start(scope, starts_mutex, &declarator.initialiser))
             }
-            Rule::Typed => {
-                told(self.broken_size(scope, &declarator.size))?;
+            Rule::Types => {
+                fail_at(self.broken_size(scope, &declarator.size))?;
                 let fits = declarator_fits(scope.is_top(), word, declarator);
-                self.push(scope, word, declarator)?;
-                told(self.broken_start(scope, word, &declarator.initialiser))?;
-                told(unless(fits, declarator.place))
+                scope.declare_variable(self.alloc, word, declarator)?;
+                fail_at(self.broken_start(scope, word, &declarator.initialiser))?;
+                fail_at(unless(fits, declarator.place))
             }
         }
     }
@@ -93,7 +72,7 @@ impl<'a> Pass<'a> {
     {
         match start {
             Start::Nothing => Ok(()),
-            Start::Expr(expr) => told(self.value(scope, expr)),
+            Start::Expr(expr) => fail_at(self.value(scope, expr)),
             Start::Declare(decl) => self.declare(scope, decl.word, decl.declarators.as_slice()),
         }
     }
@@ -135,12 +114,12 @@ impl<'a> Pass<'a> {
     {
         match stmt {
             Stmt::Empty { .. } => Ok(()),
-            Stmt::Expr { expr, .. } => told(self.effect(scope, expr)),
+            Stmt::Expr { expr, .. } => fail_at(self.effect(scope, expr)),
             Stmt::Declare(decl) => self.declare(scope, decl.word, decl.declarators.as_slice()),
             Stmt::Block { body, .. } => self.block(scope, body.as_slice()),
             Stmt::Label { body, .. } => self.part(scope, body.get()),
             Stmt::If { test, yes, no, .. } => {
-                told(self.value(scope, test))?;
+                fail_at(self.value(scope, test))?;
                 self.part(scope, yes.get())?;
                 match no {
                     None => Ok(()),
@@ -148,12 +127,12 @@ impl<'a> Pass<'a> {
                 }
             }
             Stmt::While { test, body, .. } => {
-                told(self.value(scope, test))?;
+                fail_at(self.value(scope, test))?;
                 self.turn(scope, body.get())
             }
             Stmt::DoWhile { body, test, .. } => {
                 self.turn(scope, body.get())?;
-                told(self.value(scope, test))
+                fail_at(self.value(scope, test))
             }
             Stmt::For {
                 start,
@@ -164,15 +143,15 @@ impl<'a> Pass<'a> {
             } => {
                 let outer = scope.enter();
                 self.start(scope, start)?;
-                told(self.optional_test(scope, test))?;
-                told(self.optional_value(scope, step))?;
+                fail_at(self.optional_test(scope, test))?;
+                fail_at(self.optional_value(scope, step))?;
                 self.turn(scope, body.get())?;
                 scope.leave(outer);
                 Ok(())
             }
-            Stmt::Return { place, value } => told(self.optional_returned(scope, *place, value)),
-            Stmt::Break { place } => told(self.jump(scope, *place)),
-            Stmt::Continue { place } => told(self.jump(scope, *place)),
+            Stmt::Return { place, value } => fail_at(self.optional_returned(scope, *place, value)),
+            Stmt::Break { place } => fail_at(self.jump(scope, *place)),
+            Stmt::Continue { place } => fail_at(self.jump(scope, *place)),
         }
     }
 
@@ -235,11 +214,6 @@ pub(crate) fn is_mutex(word: TypeWord) -> bool
 {
     match word {
         TypeWord::Mutex => true,
-        TypeWord::Cond => false,
-        TypeWord::Int => false,
-        TypeWord::Uint => false,
-        TypeWord::Void => false,
-        TypeWord::VoidPointer => false,
-        TypeWord::Thread => false,
+        _ => false,
     }
 }

@@ -17,11 +17,11 @@ use std::alloc::Global;
 #[derive(Clone, Copy, Drop)]
 pub enum Rule {
     /// Names are declared once in each scope.
-    Once,
+    Redeclared,
     /// Names are known.
-    Known,
+    Undeclared,
     /// Types fit, and things stand where they may.
-    Typed,
+    Types,
 }
 
 /// A pass over a program with these items.
@@ -33,7 +33,7 @@ pub(crate) struct Pass<'a> {
 }
 
 /// What the pass answers where this is broken.
-pub(crate) fn told(found: Option<Place>) -> Result<(), Stop>
+pub(crate) fn fail_at(found: Option<Place>) -> Result<(), Stop>
     ensures { Gives result found }
 {
     match found {
@@ -46,7 +46,7 @@ pub(crate) fn told(found: Option<Place>) -> Result<(), Stop>
 pub fn unless(holds: bool, place: Place) -> Option<Place>
     ensures { result ≡ scopes.unless holds place }
 {
-    if holds { None } else { Some(place) }
+    (!holds).then_some(place)
 }
 
 impl<'a> Pass<'a> {
@@ -55,9 +55,9 @@ impl<'a> Pass<'a> {
         ensures { result ≡ (rules_of self.now.rule self.now.items.now).effect scope.now expr.now }
     {
         match self.rule {
-            Rule::Once => None,
-            Rule::Known => self.unknown_in(scope, false, expr),
-            Rule::Typed => self.broken_in(scope, expr, Role::Statement),
+            Rule::Redeclared => None,
+            Rule::Undeclared => self.unknown_in(scope, false, expr),
+            Rule::Types => self.broken_in(scope, expr, Role::Statement),
         }
     }
 
@@ -66,9 +66,9 @@ impl<'a> Pass<'a> {
         ensures { result ≡ (rules_of self.now.rule self.now.items.now).value scope.now expr.now }
     {
         match self.rule {
-            Rule::Once => None,
-            Rule::Known => self.unknown_in(scope, false, expr),
-            Rule::Typed => self.broken_in(scope, expr, Role::Value),
+            Rule::Redeclared => None,
+            Rule::Undeclared => self.unknown_in(scope, false, expr),
+            Rule::Types => self.broken_in(scope, expr, Role::Value),
         }
     }
 
@@ -77,9 +77,9 @@ impl<'a> Pass<'a> {
         ensures { result ≡ (rules_of self.now.rule self.now.items.now).returned scope.now place expr.now }
     {
         match self.rule {
-            Rule::Once => None,
-            Rule::Known => self.unknown_in(scope, false, expr),
-            Rule::Typed => earlier(
+            Rule::Redeclared => None,
+            Rule::Undeclared => self.unknown_in(scope, false, expr),
+            Rule::Types => earlier(
                 self.broken_in(scope, expr, Role::Value),
                 unless(!is_void(scope.function()), place),
             ),
@@ -91,9 +91,9 @@ impl<'a> Pass<'a> {
         ensures { result ≡ (rules_of self.now.rule self.now.items.now).jump scope.now place }
     {
         match self.rule {
-            Rule::Once => None,
-            Rule::Known => None,
-            Rule::Typed => unless(scope.is_in_loop(), place),
+            Rule::Redeclared => None,
+            Rule::Undeclared => None,
+            Rule::Types => unless(scope.is_in_loop(), place),
         }
     }
 }

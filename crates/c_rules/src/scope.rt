@@ -1,11 +1,11 @@
 // The scope that a pass stands in.
 ghost use Rattle.std.specs.Prelude.{◌≡◌, ◌≤◌, ◌++◌, ◌∷◌, [], take, length, OnOk, OnErr};
 ghost use Rattle.c_rules.specs.Names as names;
-ghost use Rattle.c_rules.specs.Walk.{top_scope, enter, loop_in};
+ghost use Rattle.c_rules.specs.Walk.{top_scope, enter, loop_in, declare, param_entries, declare_function};
 ghost use Rattle.c_rules.specs.Passes.{outside, entry_of, body_scope};
 
 use crate::names::{Entry, Meaning, Variable, builtin_named, function_named};
-use c_tree::{Item, TypeWord};
+use c_tree::{Declarator, Function, Item, Param, TypeWord, constant_value};
 use dg_base::Bytes;
 use std::alloc::{AllocError, Global};
 use std::marker::Model;
@@ -74,8 +74,54 @@ impl Scopes {
         variable_in(self.entries.as_slice(), name)
     }
 
-    /// Declares a name; without memory the scope stays as it was.
-    pub fn declare(
+    /// Declares a variable behind its name and size; without memory the scope stays as it was.
+    pub fn declare_variable(
+        &mut self,
+        alloc: Global,
+        word: TypeWord,
+        declarator: &Declarator,
+    ) -> Result<(), AllocError>
+        ensures declared { OnOk result (self.new ≡ declare word declarator.now self.old) }
+        ensures refused { OnErr result (self.new ≡ self.old) }
+    {
+        let cells = match &declarator.size {
+            None => None,
+            Some(size) => Some(constant_value(size)),
+        };
+        let variable = Variable {
+            word,
+            cells,
+            shared: self.top,
+        };
+        self.push(alloc, declarator.name.as_slice(), Some(variable))
+    }
+
+    /// Declares a parameter; without memory the scope stays as it was.
+    pub fn declare_parameter(&mut self, alloc: Global, param: &Param) -> Result<(), AllocError>
+        ensures declared { OnOk result (self.new ≡ record self.old { entries = self.old.entries ++ param_entries (param.now ∷ []) }) }
+        ensures refused { OnErr result (self.new ≡ self.old) }
+    {
+        let variable = Variable {
+            word: param.word,
+            cells: None,
+            shared: false,
+        };
+        self.push(alloc, param.name.as_slice(), Some(variable))
+    }
+
+    /// Declares a function's name, which counts as declared and is looked past; without memory the scope stays as it was.
+    pub fn declare_function(
+        &mut self,
+        alloc: Global,
+        function: &Function,
+    ) -> Result<(), AllocError>
+        ensures declared { OnOk result (self.new ≡ declare_function function.now self.old) }
+        ensures refused { OnErr result (self.new ≡ self.old) }
+    {
+        self.push(alloc, function.name.as_slice(), None)
+    }
+
+    fn push(
         &mut self,
         alloc: Global,
         name: &[u8],
@@ -226,8 +272,5 @@ fn variable_in(entries: &[Entry], name: &[u8]) -> Option<Variable>
 fn latest(first: Option<Variable>, second: Option<Variable>) -> Option<Variable>
     ensures { result ≡ names.or_else second first }
 {
-    match second {
-        Some(variable) => Some(variable),
-        None => first,
-    }
+    second.or(first)
 }

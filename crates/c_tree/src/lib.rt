@@ -21,6 +21,3 @@ pub use expr::{AssignOp, BinaryOp, Expr, StepOp, TypeWord, UnaryOp};
 pub use operators::{binary_op, binary_unsigned, divides};
 pub use program::{Function, Item, Param, Program};
 pub use stmt::{Decl, Declarator, Initialiser, Start, Stmt};
-
-#[cfg(test)]
-mod tests;

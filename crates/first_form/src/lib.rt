@@ -13,6 +13,3 @@ mod statements;
 mod words;
 
 pub use form::{Form, FormCheck, FormThread, form_of};
-
-#[cfg(test)]
-mod tests;

@@ -16,7 +16,7 @@ use Rattle.c_rules.specs.Scopes.{First, unless}
 use Rattle.c_rules.specs.Types.{Judged, judged, judged_step, wholes, found_step, broken_in, broken_arguments, roles_in, call_fits, inside_brackets, behind_address, right_of_comma}
 use Rattle.c_rules.proofs.Wholes.{wholes_are}
 use Rattle.c_check.specs.declared.counts.Counts.{Counts}
-use Rattle.c_check.specs.Recursion.{created_by}
+use Rattle.c_rules.specs.Routines.{created_by}
 use Rattle.c_check.specs.Counts.{exact, no_counts, Cost, cost, cost_step, cost_namings, reading, accessing, arguments, thread_of, first_accesses, assign_accesses}
 use Rattle.c_check.specs.Counts.{call as call_counts}
 use Rattle.c_check.proofs.Namings.{same_created}

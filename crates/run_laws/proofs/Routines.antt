@@ -4,7 +4,7 @@ use Rattle.std.specs.Prelude.{codes}
 use Rattle.std.proofs.lemmas.Bool.{false≢true, and_parts}
 use Rattle.std.specs.Str.{bytes_eq}
 use Rattle.std.proofs.lemmas.Option.{same_Some}
-use Rattle.c_tree.specs.declared.expr.Expr.{Expr, fold-roll-Expr, ind-Expr, map-Expr, out-Expr, out-roll-Expr, roll-out-Expr}
+use Rattle.c_tree.specs.declared.expr.Expr.{Expr, fold-roll-Expr, ind-Expr, map-Expr, out-Expr, roll-out-Expr}
 use Rattle.c_tree.specs.declared.expr.Expr.TheOpen.{Expr-F}
 use Rattle.c_tree.specs.declared.program.Function.{Function}
 use Rattle.c_rules.specs.declared.builtin.Builtin.{Builtin}
@@ -15,67 +15,20 @@ use Rattle.c_rules.specs.declared.names.Variable.{Variable}
 use Rattle.c_rules.specs.declared.names.Meaning.TheVariants as meant
 use Rattle.c_rules.specs.declared.names.Meaning.{Meaning as Meant}
 use Rattle.c_rules.specs.Names.{Name, Scope, or_else, thread_calls, other_calls, look_up, builtin_named, function_named, variable_named, meaning_in, meaning_of}
-use Rattle.c_rules.specs.Types.{plain_step, plain_name, routine_in, routine_name, meets, may_run, argument_fits, arguments_fit, call_fits}
+use Rattle.c_rules.specs.Routines.{Naming, naming_step, naming, plain_name, routine_name, third_routine, created_by}
+use Rattle.c_rules.specs.Types.{meets, may_run, argument_fits, arguments_fit, call_fits}
 use Rattle.c_rules.specs.BuiltIns.{role_of}
-use Rattle.c_check.specs.Recursion.{Called, called, called_step, third_routine, namings, created_by}
+use Rattle.c_check.specs.Recursion.{called, namings}
+use Rattle.c_check.proofs.Namings.{called_naming}
 use Rattle.run_model.specs.Names.{first_named}
 use Rattle.run_model.specs.Calls.{Meaning, Context, argument}
 use Rattle.run_model.specs.Meaning.{expr_step, meaning}
 
 -- ---- what an expression names
 
-abbrev SamePlain : Expr → Type 0
-SamePlain x = (called x).naming.plain ≡ plain_name x
-
-abbrev plain_kids : Expr-F ((x : Expr) × SamePlain x) → Expr-F Expr
-plain_kids y = map-Expr ((x : Expr) × SamePlain x) Expr (λ e. e.0) y
-
-plain_layer : (y : Expr-F ((x : Expr) × SamePlain x))
-    → (called_step (map-Expr Expr Called called (plain_kids y))).naming.plain ≡ plain_step (map-Expr Expr (Option Name) plain_name (plain_kids y))
-plain_layer (Expr-F.Name p n) = refl
-plain_layer (Expr-F.Number p v u) = refl
-plain_layer (Expr-F.Text p) = refl
-plain_layer (Expr-F.Bracket p x) = x.1
-plain_layer (Expr-F.Index p n x) = refl
-plain_layer (Expr-F.Call p n xs) = refl
-plain_layer (Expr-F.Cast p w x) = refl
-plain_layer (Expr-F.Unary p o x) = refl
-plain_layer (Expr-F.StepBefore p o x) = refl
-plain_layer (Expr-F.StepAfter p o x) = refl
-plain_layer (Expr-F.Binary p o x y) = refl
-plain_layer (Expr-F.Choose p x y z) = refl
-plain_layer (Expr-F.Assign p o x y) = refl
-plain_layer (Expr-F.Comma p x y) = refl
-plain_layer (Expr-F.Address p x) = refl
-
-same_plain : (x : Expr) → SamePlain x
-same_plain = ind-Expr SamePlain (λ x y is.
-    ap (λ (c : Called). c.naming.plain) (fold-roll-Expr Called called_step x)
-    ∙ subst (λ (z : Expr-F Expr). (called_step (map-Expr Expr Called called z)).naming.plain ≡ plain_step (map-Expr Expr (Option Name) plain_name z)) is (plain_layer y)
-    ∙ sym (fold-roll-Expr (Option Name) plain_step x))
-
-routine_layer : (y : Expr-F Expr) → (called_step (map-Expr Expr Called called y)).naming.routine ≡ routine_in y
-routine_layer (Expr-F.Name p n) = refl
-routine_layer (Expr-F.Number p v u) = refl
-routine_layer (Expr-F.Text p) = refl
-routine_layer (Expr-F.Bracket p x) = refl
-routine_layer (Expr-F.Index p n x) = refl
-routine_layer (Expr-F.Call p n xs) = refl
-routine_layer (Expr-F.Cast p w x) = refl
-routine_layer (Expr-F.Unary p o x) = refl
-routine_layer (Expr-F.StepBefore p o x) = refl
-routine_layer (Expr-F.StepAfter p o x) = refl
-routine_layer (Expr-F.Binary p o x y) = refl
-routine_layer (Expr-F.Choose p x y z) = refl
-routine_layer (Expr-F.Assign p o x y) = refl
-routine_layer (Expr-F.Comma p x y) = refl
-routine_layer (Expr-F.Address p x) = same_plain x
-
 -- the counts see the function that the types see
 same_routine : (x : Expr) → (called x).naming.routine ≡ routine_name x
-same_routine x =
-    subst (λ (z : Expr). (called z).naming.routine ≡ routine_name z) (roll-out-Expr x)
-    (ap (λ (c : Called). c.naming.routine) (fold-roll-Expr Called called_step (out-Expr x)) ∙ routine_layer (out-Expr x) ∙ ap routine_in (sym (out-roll-Expr (out-Expr x))))
+same_routine x = ap (λ (n : Naming). n.routine) (called_naming x)
 
 module _ (cx : Context) where
   -- a run sees the name that the types see
@@ -86,7 +39,7 @@ module _ (cx : Context) where
   kids y = map-Expr ((x : Expr) × Spells x) Expr (λ e. e.0) y
 
   spelled_layer : (y : Expr-F ((x : Expr) × Spells x)) (n : Name)
-      → plain_step (map-Expr Expr (Option Name) plain_name (kids y)) ≡ Some n → (expr_step cx (map-Expr Expr Meaning (meaning cx) (kids y))).spelled ≡ Some n
+      → (naming_step (map-Expr Expr Naming naming (kids y))).plain ≡ Some n → (expr_step cx (map-Expr Expr Meaning (meaning cx) (kids y))).spelled ≡ Some n
   spelled_layer (Expr-F.Name p m) n e = e
   spelled_layer (Expr-F.Bracket p x) n e = x.1 n e
   spelled_layer _ n e = absurd (let no : ◌≡◌ {A = Option Name} None (Some n) = e in cc)
@@ -94,10 +47,10 @@ module _ (cx : Context) where
   spelled : (x : Expr) → Spells x
   spelled = ind-Expr Spells (λ x y is n e.
       ap (λ (m : Meaning). m.spelled) (fold-roll-Expr Meaning (expr_step cx) x)
-      ∙ subst (λ (z : Expr-F Expr). plain_step (map-Expr Expr (Option Name) plain_name z) ≡ Some n → (expr_step cx (map-Expr Expr Meaning (meaning cx) z)).spelled ≡ Some n) is (λ k. spelled_layer y n k)
-      (sym (fold-roll-Expr (Option Name) plain_step x) ∙ e))
+      ∙ subst (λ (z : Expr-F Expr). (naming_step (map-Expr Expr Naming naming z)).plain ≡ Some n → (expr_step cx (map-Expr Expr Meaning (meaning cx) z)).spelled ≡ Some n) is (λ k. spelled_layer y n k)
+      (ap (λ (m : Naming). m.plain) (sym (fold-roll-Expr Naming naming_step x)) ∙ e))
 
-  routine_spelled_layer : (y : Expr-F Expr) (n : Name) → routine_in y ≡ Some n → (expr_step cx (map-Expr Expr Meaning (meaning cx) y)).spelled ≡ Some n
+  routine_spelled_layer : (y : Expr-F Expr) (n : Name) → (naming_step (map-Expr Expr Naming naming y)).routine ≡ Some n → (expr_step cx (map-Expr Expr Meaning (meaning cx) y)).spelled ≡ Some n
   routine_spelled_layer (Expr-F.Name p m) n e = e
   routine_spelled_layer (Expr-F.Address p x) n e = spelled x n e
   routine_spelled_layer _ n e = absurd (let no : ◌≡◌ {A = Option Name} None (Some n) = e in cc)
@@ -107,7 +60,8 @@ module _ (cx : Context) where
   routine_spelled x n e =
       ap (λ (z : Expr). (meaning cx z).spelled) (sym (roll-out-Expr x))
       ∙ ap (λ (m : Meaning). m.spelled) (fold-roll-Expr Meaning (expr_step cx) (out-Expr x))
-      ∙ routine_spelled_layer (out-Expr x) n e
+      ∙ routine_spelled_layer (out-Expr x) n
+      (ap (λ (m : Naming). m.routine) (sym (fold-roll-Expr Naming naming_step (out-Expr x))) ∙ (ap (λ (z : Expr). routine_name z) (roll-out-Expr x) ∙ e))
 
 -- ---- built-in calls
 

@@ -14,7 +14,8 @@ use Rattle.c_tree.specs.declared.stmt.Initialiser.TheVariants.{One, Braces}
 use Rattle.c_tree.specs.declared.stmt.Declarator.{Declarator}
 use Rattle.c_rules.specs.Names.{Name}
 use Rattle.c_check.specs.Limits.{cell_count}
-use Rattle.c_check.specs.Recursion.{Called, called_step, called, called_in, called_in_start, all_called, names_in, created_by, namings}
+use Rattle.c_rules.specs.Routines.{created_by}
+use Rattle.c_check.specs.Recursion.{Called, called_step, called, called_in, called_in_start, all_called, names_in, namings}
 use Rattle.run_model.specs.Steps.{Step, ◌>>=◌, ◌>>◌, look, in_turn}
 use Rattle.run_model.specs.Calls.{Meaning, Setting, Context, function_named}
 use Rattle.run_model.specs.Meaning.{value, call, runs_of, result_unsigned, expr_step, meaning, eval}
