@@ -16,8 +16,8 @@ use Rattle.c_rules.specs.Scopes.{First, unless, may_name_function, once_rules, r
 use Rattle.c_rules.specs.Walk.{Walk, walk_items, walk_item, walk_body, declare, declare_all, declare_function, top_scope}
 use Rattle.c_rules.specs.Naming.{DeclaresOnce}
 use Rattle.c_check.specs.Checked.{function_names}
-use Rattle.witness_text.specs.Spelling.{AreDistinct}
-use Rattle.witness_text.proofs.Spelled.{all_map}
+use Rattle.c_check.specs.PlainNames.{AreDistinct}
+use Rattle.c_check.proofs.PlainNames.{all_map}
 
 abbrev function_list : List Item → List Name
 function_list xs = map (λ (f : Function). f.name) (functions_of xs)

@@ -3,7 +3,7 @@ use Rattle.std.proofs.Common.{◌≡◌, ℕ, zero, suc, ◌+◌, ◌/◌, ◌%�
 use Rattle.std.specs.List.{prefix_len}
 use Rattle.std.specs.Fmt.{digits, digits_onto, decimal, digit_glyph}
 use Rattle.std.proofs.lemmas.Bool.{cond_both}
-use Rattle.witness_text.specs.Spelling.{lacks}
+use Rattle.c_check.specs.PlainNames.{lacks}
 
 pub lacks_cons : (b x : ℕ) (xs : List ℕ) → eqb x b ≡ false → lacks b xs ≡ true → lacks b (x ∷ xs) ≡ true
 lacks_cons b x xs e h = rw e h

@@ -20,8 +20,8 @@ use Rattle.c_token.specs.declared.pieces.Mode.TheVariants.{LineStart}
 use Rattle.c_token.specs.Macros.{Definition, Reading, macro_of, all_at, is_name, replaced_by, replaced, nothing_read, add_words, add, define, read_piece, read, bodies_of}
 use Rattle.c_token.specs.Dropping.{is_named, kept}
 use Rattle.c_token.specs.Tokens.{is_text_word, is_unsupported, meant, first_long, limited, supported, tokens_read, tokens_of, answer}
-use Rattle.witness_text.specs.Spelling.{lacks}
-use Rattle.witness_text.proofs.Rising.{all_append}
+use Rattle.c_check.specs.PlainNames.{lacks}
+use Rattle.c_check.proofs.PlainNames.{all_append}
 use Rattle.c_program.proofs.Lacking.{first_and_prefix_lacks}
 use Rattle.c_program.proofs.Dropped.{kept_all}
 

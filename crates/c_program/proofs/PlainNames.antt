@@ -4,7 +4,7 @@ use Rattle.c_check.specs.declared.checked.CellInfo.{CellInfo}
 use Rattle.c_check.specs.Checked.{function_names, cells_of}
 use Rattle.c_tree.specs.declared.program.Program.{Program}
 use Rattle.c_rules.specs.Naming.{DeclaresOnce}
-use Rattle.witness_text.specs.Spelling.{HasPlainNames, lacks, cell_names}
+use Rattle.c_check.specs.PlainNames.{HasPlainNames, lacks, cell_names}
 use Rattle.c_program.specs.Accepting.{IsRead, NamesArePlain}
 use Rattle.c_program.proofs.Plain.{names_plain}
 use Rattle.c_program.proofs.Spelled.{items_plain, functions_plain, cell_names_plain}

@@ -15,9 +15,8 @@ use Rattle.c_rules.specs.Names.{Name, functions_of}
 use Rattle.c_rules.specs.Walk.{cells_of_size}
 use Rattle.c_check.specs.declared.checked.CellInfo.{CellInfo}
 use Rattle.c_check.specs.Checked.{indexed, array_cells, variable_cells, first_values, cells_of_declarators, cells_of_items}
-use Rattle.witness_text.specs.Spelling.{lacks, cell_names}
-use Rattle.witness_text.proofs.Bytes.{lacks_append}
-use Rattle.witness_text.proofs.Rising.{all_append, all_front, all_back}
+use Rattle.c_check.specs.PlainNames.{lacks, cell_names}
+use Rattle.c_check.proofs.PlainNames.{all_append, all_front, all_back, lacks_append}
 use Rattle.c_program.proofs.Lacking.{digits_lack}
 use Rattle.c_program.proofs.Plain.{IsPlain, IsPlainToken, ArePlain}
 

@@ -9,7 +9,7 @@ use Rattle.c_tree.specs.declared.program.Program.{Program}
 use Rattle.c_stmt.specs.Programs.{HasCause, ReadsProgram}
 use Rattle.c_check.specs.declared.checked.Checked.{Checked}
 use Rattle.c_check.specs.WellFormed.{IsChecked, IsFirstRefusal}
-use Rattle.witness_text.specs.Spelling.{HasPlainNames, cell_names}
+use Rattle.c_check.specs.PlainNames.{HasPlainNames, cell_names}
 
 -- the text's tokens are this program
 pub record IsRead (text : List ℕ) (program : Program) : Type 0 where

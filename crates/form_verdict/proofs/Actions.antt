@@ -3,6 +3,7 @@ use Rattle.std.proofs.Common.{◌≡◌, ℕ, zero, suc, ◌+◌, ◌*◌, List,
 use Rattle.std.specs.Prelude.{slice_get, ◌==◌}
 use Rattle.std.proofs.lemmas.List.{length-map}
 use Rattle.std.proofs.lemmas.Option.{slice_get-map}
+use Rattle.dg_base.proofs.Lists.{get_append_cases, get_append_left, get_append_right}
 use Rattle.axiom_model.specs.declared.Action.{Action}
 use Rattle.axiom_model.specs.declared.Action.TheVariants.{Read, Write, Create, Join, Start, End}
 use Rattle.axiom_model.specs.Execution.{Thread}
@@ -12,7 +13,7 @@ use Rattle.first_form.specs.declared.form.Form.{Form}
 use Rattle.first_form.specs.declared.form.FormThread.{FormThread}
 use Rattle.first_form.specs.declared.form.FormCheck.{FormCheck}
 use Rattle.form_verdict.proofs.Runs.{ended, acting, writing, thread_run, checks_run, joins_run, creating, first_handle, main_run, run_of, form_runs}
-use Rattle.form_verdict.proofs.Lists.{slice_get-append_right, slice_get-append_left, slice_get-append, only_place}
+use Rattle.form_verdict.proofs.Lists.{only_place}
 use Rattle.form_verdict.proofs.RunSteps.{option_map_some, if_cases, CheckStep, check_step, JoinStep, join_step}
 
 -- the action neither writes nor creates
@@ -107,7 +108,7 @@ writer_write vs zero c v e = cc
 writer_write vs (suc i) c v e =
     ⊎_elim (λ h. let w = writing_at vs i (Write c v) h in (i, refl, cc, cc))
     (λ h. let wrong : End ≡ Write c v = only_place End h.0 (Write c v) h.2 in cc)
-    (slice_get-append (writing vs) (End ∷ []) i (Write c v) e)
+    (get_append_cases (writing vs) (End ∷ []) i (Write c v) e)
 
 -- a writer creates nothing
 pub writer_creates_nothing : (vs : List ℕ) (i h g v : ℕ) → slice_get (writer_actions vs) i ≡ Some (Create h g v) → ⊥
@@ -115,18 +116,18 @@ writer_creates_nothing vs zero h g v e = cc
 writer_creates_nothing vs (suc i) h g v e =
     ⊎_elim (λ p. let w = writing_at vs i (Create h g v) p in cc)
     (λ p. let wrong : End ≡ Create h g v = only_place End p.0 (Create h g v) p.2 in cc)
-    (slice_get-append (writing vs) (End ∷ []) i (Create h g v) e)
+    (get_append_cases (writing vs) (End ∷ []) i (Create h g v) e)
 
 -- a writer writes each of its numbers, behind its Start
 pub writer_writes : (vs : List ℕ) (m v : ℕ) → slice_get vs m ≡ Some v → slice_get (writer_actions vs) (suc m) ≡ Some (Write 0 v)
 writer_writes vs m v e =
-    slice_get-append_left (writing vs) (End ∷ []) m (Write 0 v) (slice_get-map (λ w. Write 0 w) vs m ∙ ap (option_map (λ w. Write 0 w)) e)
+    get_append_left (writing vs) (End ∷ []) m (Write 0 v) (slice_get-map (λ w. Write 0 w) vs m ∙ ap (option_map (λ w. Write 0 w)) e)
 
 -- a writer ends behind its writes
 pub writer_ends : (vs : List ℕ) → slice_get (writer_actions vs) (suc (length vs)) ≡ Some End
 writer_ends vs =
     let n : length vs ≡ length (writing vs) + 0 = omega (arith, length-map vs (λ w. Write 0 w)) in
-    ap (slice_get (writing vs ++ End ∷ [])) n ∙ slice_get-append_right (writing vs) (End ∷ []) 0
+    ap (slice_get (writing vs ++ End ∷ [])) n ∙ get_append_right (writing vs) (End ∷ []) (length (writing vs) + 0) 0 refl
 
 -- main creates the functions in order, with handles from its first one on
 pub main_create : (own : ℕ) (fs : List ℕ) (rest : List Action) → OnlyJoinsAndReads rest → (i h g v : ℕ) → slice_get (main_actions own fs rest) i ≡ Some (Create h g v) → (m : ℕ) × (h ≡ 64 * own + suc m) × (slice_get fs m ≡ Some g)
@@ -134,7 +135,7 @@ main_create own fs rest o zero h g v e = cc
 main_create own fs rest o (suc i) h g v e =
     ⊎_elim (λ p. let c = creating_at (first_handle own) fs i (Create h g v) p in let n : 64 * own + 1 + i ≡ h = cc in (i, omega arith, cc))
     (λ p. absurd (o p.0 (Create h g v) p.2))
-    (slice_get-append (creating (first_handle own) fs) rest i (Create h g v) e)
+    (get_append_cases (creating (first_handle own) fs) rest i (Create h g v) e)
 
 -- main writes nothing
 pub main_writes_nothing : (own : ℕ) (fs : List ℕ) (rest : List Action) → OnlyJoinsAndReads rest → (i c v : ℕ) → slice_get (main_actions own fs rest) i ≡ Some (Write c v) → ⊥
@@ -142,4 +143,4 @@ main_writes_nothing own fs rest o zero c v e = cc
 main_writes_nothing own fs rest o (suc i) c v e =
     ⊎_elim (λ p. let w = creating_at (first_handle own) fs i (Write c v) p in cc)
     (λ p. o p.0 (Write c v) p.2)
-    (slice_get-append (creating (first_handle own) fs) rest i (Write c v) e)
+    (get_append_cases (creating (first_handle own) fs) rest i (Write c v) e)

@@ -383,10 +383,13 @@ shape_of-form p f e = let m = program_made p.program f e in shape_is p m.0 m.1 f
 -- the failing executions of a program of the form are those of the form
 pub fails_in_form : (p : Checked) (f : Form) → whole.form_of p.program ≡ Some f → (c : Candidate) → ProgramFails p Sc c → FormFails f c
 fails_in_form p f e c x = record {
-  threads = x.threads;
-  whole = whole_in_form p f e c.threads x.threads x.whole;
-  well_made = subst (λ s. WellMade s (execution_of c x.threads)) (shape_of-form p f e) x.well_made;
-  consistent = x.consistent;
+  allowed = record {
+    threads = x.allowed.threads;
+    words = x.allowed.words;
+    whole = whole_in_form p f e c.threads x.allowed.threads x.allowed.whole;
+    well_made = subst (λ s. WellMade s (execution_of c x.allowed.threads)) (shape_of-form p f e) x.allowed.well_made;
+    consistent = x.allowed.consistent;
+  };
   fails = x.fails;
 }
 
@@ -395,9 +398,12 @@ pub fails_in_program : (p : Checked) (f : Form) → whole.form_of p.program ≡ 
 fails_in_program p f e c x =
     let m = program_made p.program f e in
     record {
-      threads = x.threads;
-      whole = whole_from (form_runs f) (thread_run p) (λ function handle arg script. sym (runs_of p m.0 m.1 f m.2 function handle arg script)) c.threads x.threads x.whole;
-      well_made = subst (λ s. WellMade s (execution_of c x.threads)) (sym (shape_of-form p f e)) x.well_made;
-      consistent = x.consistent;
+      allowed = record {
+        threads = x.allowed.threads;
+        words = x.allowed.words;
+        whole = whole_from (form_runs f) (thread_run p) (λ function handle arg script. sym (runs_of p m.0 m.1 f m.2 function handle arg script)) c.threads x.allowed.threads x.allowed.whole;
+        well_made = subst (λ s. WellMade s (execution_of c x.allowed.threads)) (sym (shape_of-form p f e)) x.allowed.well_made;
+        consistent = x.allowed.consistent;
+      };
       fails = x.fails;
     }

@@ -14,14 +14,18 @@ use Rattle.form_verdict.proofs.FailsFinal.{last_write}
 use Rattle.form_verdict.proofs.FailsExecution.{all_runs}
 use Rattle.form_verdict.proofs.FailsWellMade.{cell_known, well_made}
 use Rattle.form_verdict.proofs.FailsOrder.{consistent}
+use Rattle.form_verdict.proofs.FailsWords.{final_small, shown_words}
 
 -- an execution in which the final event comes last fails at the first assertion whose value a test tells apart from the final one
 pub execution_fails_test : (f : Form) → IsProgram f → (e : Event) (v : ℕ) → Final f e v → (k : ℕ) (c : FormCheck) → slice_get f.checks k ≡ Some c → nat_eq v c.value ≡ false → ((j : ℕ) (d : FormCheck) → j < k → slice_get f.checks j ≡ Some d → d.value ≡ v) → FormFails f (execution_with f e v k)
 execution_fails_test f p e v final k c s n b = record {
-  threads = all_runs f v k c;
-  whole = (main_runs f v k c s n b, created_run f p.created);
-  well_made = well_made f p e v k c (last_write f e v final) (cell_known f p k c s);
-  consistent = consistent f p e v k c (last_write f e v final);
+  allowed = record {
+    threads = all_runs f v k c;
+    words = shown_words f e v k (final_small f p e v final);
+    whole = (main_runs f v k c s n b, created_run f p.created);
+    well_made = well_made f p e v k c (last_write f e v final) (cell_known f p k c s);
+    consistent = consistent f p e v k c (last_write f e v final);
+  };
   fails = (0, main_fails f.created v k c, c.place, refl, refl);
 }
 

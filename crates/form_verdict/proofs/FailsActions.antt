@@ -3,6 +3,7 @@ use Rattle.std.proofs.Common.{◌≡◌, ℕ, zero, suc, ◌+◌, ◌<◌, ◌�
 use Rattle.std.specs.Prelude.{slice_get, nat_eq}
 use Rattle.std.proofs.lemmas.Bool.{cond-true, cond-false, eq-eqb, ne_eqb}
 use Rattle.std.proofs.lemmas.Option.{slice_get_within}
+use Rattle.dg_base.proofs.Lists.{get_append_cases, get_append_left, get_append_right}
 use Rattle.axiom_model.specs.declared.Action.{Action}
 use Rattle.axiom_model.specs.declared.Action.TheVariants.{Read, Write, Create, Join, Start, End}
 use Rattle.axiom_model.specs.declared.Event.{Event}
@@ -15,7 +16,6 @@ use Rattle.first_form.specs.Form.{function_writes}
 use Rattle.form_verdict.proofs.Runs.{writing, creating}
 use Rattle.form_verdict.specs.Final.{created_writes, writes_of, parts_from, main_part}
 use Rattle.form_verdict.proofs.FailsRuns.{joining, reading, main_actions, main_fails, writer_actions, created_runs}
-use Rattle.form_verdict.proofs.Lists.{slice_get-append, slice_get-append_left, slice_get-append_right}
 
 -- ---- the lists of actions
 
@@ -137,7 +137,7 @@ pub data Stands (f : Form) (v k : ℕ) (e : Event) (a : Action) : Type 0 where
 main_stands : (f : Form) (v k i : ℕ) (a : Action) → slice_get (main_actions f.created v k) i ≡ Some a → Stands f v k (At 0 i) a
 main_stands f v k zero a e = main_start refl (cc)
 main_stands f v k (suc i) a e =
-    ⊎_elim creates behind (slice_get-append (creating 1 f.created) (joining 1 f.created ++ reading v (suc k)) i a e)
+    ⊎_elim creates behind (get_append_cases (creating 1 f.created) (joining 1 f.created ++ reading v (suc k)) i a e)
   where
     creates : slice_get (creating 1 f.created) i ≡ Some a → Stands f v k (At 0 (suc i)) a
     creates q =
@@ -160,13 +160,13 @@ main_stands f v k (suc i) a e =
 
     behind : (m : ℕ) × (i ≡ length (creating 1 f.created) + m) × (slice_get (joining 1 f.created ++ reading v (suc k)) m ≡ Some a) → Stands f v k (At 0 (suc i)) a
     behind r =
-        ⊎_elim (λ q. joins r.0 r.1 q) (λ q. reads r.0 q.0 r.1 q.1 q.2) (slice_get-append (joining 1 f.created) (reading v (suc k)) r.0 a r.2)
+        ⊎_elim (λ q. joins r.0 r.1 q) (λ q. reads r.0 q.0 r.1 q.1 q.2) (get_append_cases (joining 1 f.created) (reading v (suc k)) r.0 a r.2)
 
 -- every action of a created thread is one of these
 writer_stands : (f : Form) (v k h g i : ℕ) (a : Action) → slice_get f.created h ≡ Some g → slice_get (writer_actions (function_writes f.threads g)) i ≡ Some a → Stands f v k (At (suc h) i) a
 writer_stands f v k h g zero a s e = start h g s refl (cc)
 writer_stands f v k h g (suc i) a s e =
-    ⊎_elim writes ends (slice_get-append (writing (function_writes f.threads g)) (End ∷ []) i a e)
+    ⊎_elim writes ends (get_append_cases (writing (function_writes f.threads g)) (End ∷ []) i a e)
   where
     same : function_writes f.threads g ≡ writes_of f (suc h)
     same = ap (created_writes f) (sym s)
@@ -204,15 +204,15 @@ stands f v k (suc h) i a e =
 pub create_stands : (f : Form) (v k i g : ℕ) → slice_get f.created i ≡ Some g → slice_get (actions_by f v k 0) (suc i) ≡ Some (Create (suc i) g 0)
 create_stands f v k i g s =
     let z : 1 + i ≡ suc i = omega arith in
-    slice_get-append_left (creating 1 f.created) (joining 1 f.created ++ reading v (suc k)) i (Create (suc i) g 0) (creating_there 1 f.created i g s ∙ ap (λ n. Some (Create n g 0)) z)
+    get_append_left (creating 1 f.created) (joining 1 f.created ++ reading v (suc k)) i (Create (suc i) g 0) (creating_there 1 f.created i g s ∙ ap (λ n. Some (Create n g 0)) z)
 
 -- main reads at each assertion up to the one that fails
 pub read_stands : (f : Form) (v k j : ℕ) → j ≤ k → slice_get (actions_by f v k 0) (length f.created + length f.created + 1 + j) ≡ Some (Read 0 v)
 read_stands f v k j l =
     let z : length f.created + length f.created + 1 + j ≡ suc (length (creating 1 f.created) + (length (joining 1 f.created) + j)) = omega (arith, length-creating 1 f.created, length-joining 1 f.created) in
     ap (slice_get (main_actions f.created v k)) z
-    ∙ slice_get-append_right (creating 1 f.created) (joining 1 f.created ++ reading v (suc k)) (length (joining 1 f.created) + j)
-    ∙ slice_get-append_right (joining 1 f.created) (reading v (suc k)) j
+    ∙ get_append_right (creating 1 f.created) (joining 1 f.created ++ reading v (suc k)) (length (creating 1 f.created) + (length (joining 1 f.created) + j)) (length (joining 1 f.created) + j) refl
+    ∙ get_append_right (joining 1 f.created) (reading v (suc k)) (length (joining 1 f.created) + j) j refl
     ∙ reading_there v (suc k) j (omega arith)
 
 -- each created thread writes its numbers
@@ -223,4 +223,4 @@ write_stands f v k h i w s =
     go : (o : Option ℕ) → slice_get (created_writes f o) i ≡ Some w → slice_get (created_actions f o) (suc i) ≡ Some (Write 0 w)
     go None q = cc
     go (Some g) q =
-        slice_get-append_left (writing (function_writes f.threads g)) (End ∷ []) i (Write 0 w) (writing_there (function_writes f.threads g) i w q)
+        get_append_left (writing (function_writes f.threads g)) (End ∷ []) i (Write 0 w) (writing_there (function_writes f.threads g) i w q)

@@ -3,11 +3,11 @@ use Rattle.std.proofs.Common.{◌≡◌, ℕ, zero, suc, ◌+◌, ◌*◌, ◌<�
 use Rattle.std.specs.Prelude.{slice_get}
 use Rattle.std.proofs.lemmas.Bool.{cases_Bool, eqb-true, eq-eqb}
 use Rattle.std.proofs.Math.ListN.{length-append}
+use Rattle.dg_base.proofs.Lists.{get_append_right}
 use Rattle.axiom_model.specs.declared.Event.{Event}
 use Rattle.axiom_model.specs.declared.Event.TheVariants.{Initial, At}
 use Rattle.first_form.specs.declared.form.Form.{Form}
 use Rattle.form_verdict.specs.Final.{writes_of, Final, initial, written, is_by, write_order}
-use Rattle.form_verdict.proofs.Lists.{slice_get-append_right}
 use Rattle.form_verdict.proofs.FailsRank.{rank, rank_own, rank_other}
 use Rattle.form_verdict.proofs.FailsWrites.{FewWrites, all_writes_at}
 
@@ -23,7 +23,7 @@ last_write f e v (written zero before w s) = absurd (omega (arith, ap length s, 
 last_write f e v (written (suc h) before w s) =
     let one : length before + 1 ≡ suc (length before) = omega arith in
     let z : length before + 0 ≡ length before = omega arith in
-    let there : slice_get (before ++ v ∷ []) (length before) ≡ Some v = ap (slice_get (before ++ v ∷ [])) (sym z) ∙ slice_get-append_right before (v ∷ []) 0 in
+    let there : slice_get (before ++ v ∷ []) (length before) ≡ Some v = ap (slice_get (before ++ v ∷ [])) (sym z) ∙ get_append_right before (v ∷ []) (length before + 0) 0 refl in
     last h (length before) (ap (At (suc h)) one) (ap (λ l. slice_get l (length before)) s ∙ there) (ap length s ∙ length-append before (v ∷ []) ∙ one)
 
 -- no write is later than the final event

@@ -3,11 +3,11 @@ use Rattle.std.proofs.Common.{◌≡◌, ℕ, zero, suc, ◌+◌, ◌<◌, ◌�
 use Rattle.std.specs.Prelude.{slice_get, if◌then◌else◌}
 use Rattle.std.proofs.lemmas.Bool.{cases_lt, cases_order, cases_Bool, eqb-true, eq-eqb}
 use Rattle.std.proofs.lemmas.Option.{slice_get_within}
+use Rattle.dg_base.proofs.Lists.{get_append_cases, get_append_left, get_append_right}
 use Rattle.axiom_model.specs.declared.Event.{Event}
 use Rattle.axiom_model.specs.declared.Event.TheVariants.{Initial, At}
 use Rattle.first_form.specs.declared.form.Form.{Form}
 use Rattle.form_verdict.specs.Final.{created_writes, writes_of, is_by, events_from, write_events, other_writes, own_writes, write_order}
-use Rattle.form_verdict.proofs.Lists.{slice_get-append, slice_get-append_left, slice_get-append_right}
 use Rattle.form_verdict.proofs.FailsRank.{rank, rank_own, rank_other, rank_before, rank_positive}
 
 -- ---- lists that rise
@@ -23,17 +23,17 @@ Below r xs ys = (i j : ℕ) (a b : Event) → slice_get xs i ≡ Some a → slic
 -- joined lists rise if both rise and the first is below the second
 rising_append : (r : Event → ℕ) (xs ys : List Event) → Rising r xs → Rising r ys → Below r xs ys → Rising r (xs ++ ys)
 rising_append r xs ys p q below i j a b l x y =
-    ⊎_elim first second (slice_get-append xs ys i a x)
+    ⊎_elim first second (get_append_cases xs ys i a x)
   where
     first : slice_get xs i ≡ Some a → r a < r b
-    first u = ⊎_elim (λ v. p i j a b l u v) (λ v. below i v.0 a b u v.2) (slice_get-append xs ys j b y)
+    first u = ⊎_elim (λ v. p i j a b l u v) (λ v. below i v.0 a b u v.2) (get_append_cases xs ys j b y)
 
     second : (m : ℕ) × (i ≡ length xs + m) × (slice_get ys m ≡ Some a) → r a < r b
     second u =
         ⊎_elim
         (λ v. let here : j < length xs = slice_get_within xs j b v in absurd (omega (arith, u.1)))
         (λ v. q u.0 v.0 a b (omega (arith, u.1, v.1)) u.2 v.2)
-        (slice_get-append xs ys j b y)
+        (get_append_cases xs ys j b y)
 
 -- a list rises if its first is below the rest
 rising_cons : (r : Event → ℕ) (x : Event) (xs : List Event) → Rising r xs → ((i : ℕ) (a : Event) → slice_get xs i ≡ Some a → r x < r a) → Rising r (x ∷ xs)
@@ -124,7 +124,7 @@ others_at f e h (g ∷ gs) i a x =
     ⊎_elim
     (λ y. other_wider f e h (h + 1) h (h + length (g ∷ gs)) a (omega arith) (omega arith) (part_at f e h i a y))
     (λ y. other_wider f e (h + 1) (h + 1 + length gs) h (h + length (g ∷ gs)) a (omega arith) (omega arith) (others_at f e (h + 1) gs y.0 a y.2))
-    (slice_get-append (part f e h) (other_writes f e (h + 1) gs) i a x)
+    (get_append_cases (part f e h) (other_writes f e (h + 1) gs) i a x)
 
 others_there : (f : Form) (e : Event) (h : ℕ) (gs : List ℕ) (k q : ℕ) → h ≤ k → k < h + length gs → is_by e k ≡ false → q < length (writes_of f k) → (i : ℕ) × (slice_get (other_writes f e h gs) i ≡ Some (At k (suc q)))
 others_there f e h [] k q l m b w = absurd (omega arith)
@@ -134,10 +134,10 @@ others_there f e h (g ∷ gs) k q l m b w =
     here : k ≡ h → (i : ℕ) × (slice_get (other_writes f e h (g ∷ gs)) i ≡ Some (At k (suc q)))
     here s =
         let there : slice_get (part f e k) q ≡ Some (At k (suc q)) = ap (λ z. slice_get z q) (unless_there (is_by e k) (write_events f k) b) ∙ write_events_there f k q w in
-        (q, slice_get-append_left (part f e h) (other_writes f e (h + 1) gs) q (At k (suc q)) (subst (λ z. slice_get (part f e z) q ≡ Some (At k (suc q))) s there))
+        (q, get_append_left (part f e h) (other_writes f e (h + 1) gs) q (At k (suc q)) (subst (λ z. slice_get (part f e z) q ≡ Some (At k (suc q))) s there))
 
     later : (i : ℕ) × (slice_get (other_writes f e (h + 1) gs) i ≡ Some (At k (suc q))) → (i : ℕ) × (slice_get (other_writes f e h (g ∷ gs)) i ≡ Some (At k (suc q)))
-    later r = (length (part f e h) + r.0, slice_get-append_right (part f e h) (other_writes f e (h + 1) gs) r.0 ∙ r.1)
+    later r = (length (part f e h) + r.0, get_append_right (part f e h) (other_writes f e (h + 1) gs) (length (part f e h) + r.0) r.0 refl ∙ r.1)
 
 -- each thread has few writes
 abbrev pub FewWrites : Form → Type 0
@@ -212,7 +212,7 @@ all_writes_rise f e few =
 -- each element of the order but the first is a write of a created thread
 pub all_writes_at : (f : Form) (e : Event) (i : ℕ) (a : Event) → slice_get (all_writes f e) i ≡ Some a → (h q : ℕ) × (h < length f.created) × (q < length (writes_of f (suc h))) × (a ≡ At (suc h) (suc q))
 all_writes_at f e i a x =
-    ⊎_elim (λ y. others (others_at f e 1 f.created i a y)) (λ y. let o = own_at f e y.0 a y.2 in by o.0 o.2.0 o.2.1 o.2.2) (slice_get-append (other_writes f e 1 f.created) (own_writes f e) i a x)
+    ⊎_elim (λ y. others (others_at f e 1 f.created i a y)) (λ y. let o = own_at f e y.0 a y.2 in by o.0 o.2.0 o.2.1 o.2.2) (get_append_cases (other_writes f e 1 f.created) (own_writes f e) i a x)
   where
     by : (h q : ℕ) → q < length (writes_of f h) → a ≡ At h (suc q) → (h q : ℕ) × (h < length f.created) × (q < length (writes_of f (suc h))) × (a ≡ At (suc h) (suc q))
     by zero q l s = absurd (omega arith)
@@ -228,13 +228,13 @@ all_writes_there f e h q l =
   where
     own : is_by e (suc h) ≡ true → (i : ℕ) × (slice_get (all_writes f e) i ≡ Some (At (suc h) (suc q)))
     own b =
-        (length (other_writes f e 1 f.created) + q, slice_get-append_right (other_writes f e 1 f.created) (own_writes f e) q ∙ own_there f e (suc h) q b l)
+        (length (other_writes f e 1 f.created) + q, get_append_right (other_writes f e 1 f.created) (own_writes f e) (length (other_writes f e 1 f.created) + q) q refl ∙ own_there f e (suc h) q b l)
 
     others : is_by e (suc h) ≡ false → (i : ℕ) × (slice_get (all_writes f e) i ≡ Some (At (suc h) (suc q)))
     others b =
         let k : h < length f.created = writer_known f h q l in
         let r = others_there f e 1 f.created (suc h) q (omega arith) (omega arith) b l in
-        (r.0, slice_get-append_left (other_writes f e 1 f.created) (own_writes f e) r.0 (At (suc h) (suc q)) r.1)
+        (r.0, get_append_left (other_writes f e 1 f.created) (own_writes f e) r.0 (At (suc h) (suc q)) r.1)
 
 -- the rank rises along the order of the writes
 pub write_order_rises : (f : Form) (e : Event) → FewWrites f → Rising (rank (length f.created) e) (write_order f e)

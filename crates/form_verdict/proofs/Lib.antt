@@ -10,6 +10,7 @@ mod FailsRuns
 mod FailsActions
 mod FailsRank
 mod FailsWrites
+mod FailsWords
 mod FailsFinal
 mod FailsExecution
 mod FailsWellMade

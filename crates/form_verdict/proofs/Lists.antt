@@ -5,26 +5,6 @@ use Rattle.std.proofs.lemmas.List.{take_more}
 use Rattle.std.proofs.lemmas.Option.{slice_get-get_or, slice_get_within, get_or_from_slice_get}
 use Rattle.std.proofs.lemmas.List.Sums.{get_or-le-sum_by}
 
--- an element of a joined list stands in the first or in the second
-pub slice_get-append : {X : Type 0} (xs ys : List X) (i : ℕ) (a : X) → slice_get (xs ++ ys) i ≡ Some a → (slice_get xs i ≡ Some a) ⊎ ((m : ℕ) × (i ≡ length xs + m) × (slice_get ys m ≡ Some a))
-slice_get-append [] ys i a e = inr (i, omega arith, e)
-slice_get-append (x ∷ xs) ys zero a e = inl e
-slice_get-append (x ∷ xs) ys (suc i) a e =
-    ⊎_elim (λ l. inl l) (λ r. let q : suc i ≡ suc (length xs) + r.0 = omega (arith, r.1) in inr (r.0, q, r.2)) (slice_get-append xs ys i a e)
-
--- an element of the first list stands at its place in the joined one
-pub slice_get-append_left : {X : Type 0} (xs ys : List X) (i : ℕ) (a : X) → slice_get xs i ≡ Some a → slice_get (xs ++ ys) i ≡ Some a
-slice_get-append_left [] ys i a e = cc
-slice_get-append_left (x ∷ xs) ys zero a e = e
-slice_get-append_left (x ∷ xs) ys (suc i) a e = slice_get-append_left xs ys i a e
-
--- an element of the second list stands behind the first
-pub slice_get-append_right : {X : Type 0} (xs ys : List X) (m : ℕ) → slice_get (xs ++ ys) (length xs + m) ≡ slice_get ys m
-slice_get-append_right [] ys m = let z : 0 + m ≡ m = omega arith in ap (slice_get ys) z
-slice_get-append_right (x ∷ xs) ys m =
-    let z : length (x ∷ xs) + m ≡ suc (length xs + m) = omega arith in
-    ap (slice_get (x ∷ xs ++ ys)) z ∙ slice_get-append_right xs ys m
-
 -- what holds of the element at each place holds of all
 pub All-from_slice_get : {X : Type 0} (P : X → Type 0) (xs : List X) → ((i : ℕ) (a : X) → slice_get xs i ≡ Some a → P a) → All P xs
 All-from_slice_get P xs h k d l = h k (get_or xs k d) (slice_get-get_or xs k d l)

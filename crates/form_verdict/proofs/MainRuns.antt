@@ -1,6 +1,7 @@
 -- What a failed run of main did: it joined every created thread, and then it read a value that an assertion does not allow.
 use Rattle.std.proofs.Common.{◌≡◌, ◌≢◌, ℕ, zero, suc, ◌+◌, ◌<◌, List, [], ◌∷◌, ◌++◌, Some, None, refl, ap, ◌∙◌, subst, arith, length}
 use Rattle.std.specs.Prelude.{slice_get}
+use Rattle.dg_base.proofs.Lists.{get_append_right}
 use Rattle.dg_base.specs.declared.Place.{Place}
 use Rattle.axiom_model.specs.declared.Action.{Action}
 use Rattle.axiom_model.specs.declared.Action.TheVariants.{Read, Join, Start}
@@ -8,7 +9,6 @@ use Rattle.axiom_model.specs.Failing.{Run}
 use Rattle.first_form.specs.declared.form.Form.{Form}
 use Rattle.first_form.specs.declared.form.FormCheck.{FormCheck}
 use Rattle.form_verdict.proofs.Runs.{ended, acting, checks_run, joins_run, creating, first_handle, main_run}
-use Rattle.form_verdict.proofs.Lists.{slice_get-append_right}
 use Rattle.form_verdict.proofs.RunSteps.{option_map_some, CheckStep, check_step, JoinStep, join_step}
 
 -- the actions hold a read of a value other than an assertion's, and before it the joins of so many handles from this one on
@@ -31,8 +31,8 @@ behind cs h n before acts w = record {
   value = w.value;
   wrong = w.wrong;
   index = length before + w.index;
-  reads = slice_get-append_right before acts w.index ∙ w.reads;
-  joined = λ m l. let j = w.joined m l in (length before + j.0, omega (arith, j.1), slice_get-append_right before acts j.0 ∙ j.2);
+  reads = get_append_right before acts (length before + w.index) w.index refl ∙ w.reads;
+  joined = λ m l. let j = w.joined m l in (length before + j.0, omega (arith, j.1), get_append_right before acts (length before + j.0) j.0 refl ∙ j.2);
 }
 
 -- a wrong read stays one behind one more join

@@ -25,18 +25,18 @@ failed_is_main f function own None script r at e p =
 failed_is_main f function own (Some t) script r at e p = let same : thread_run t ≡ r = cc in let none : None ≡ r.failed = ap (λ q. q.failed) same in cc
 
 -- the execution of a failing candidate is one of the program
-execution_is : (f : Form) → IsProgram f → (c : Candidate) → (e : FormFails f c) → IsExecution f (execution_of c e.threads)
-execution_is f p c e = record { program = p; runs = threads_of-runs (form_runs f) c.threads e.threads e.whole; well_made = e.well_made }
+execution_is : (f : Form) → IsProgram f → (c : Candidate) → (e : FormFails f c) → IsExecution f (execution_of c e.allowed.threads)
+execution_is f p c e = record { program = p; runs = threads_of-runs (form_runs f) c.threads e.allowed.threads e.allowed.whole; well_made = e.allowed.well_made }
 
 -- in a failing candidate main fails
-main_fails : (f : Form) → IsProgram f → (c : Candidate) → (e : FormFails f c) → MainFails f (execution_of c e.threads)
+main_fails : (f : Form) → IsProgram f → (c : Candidate) → (e : FormFails f c) → MainFails f (execution_of c e.allowed.threads)
 main_fails f p c e =
     let ex = execution_is f p c e in
     let r : Run = e.fails.1 in
-    let part = part_of_run (form_runs f) c.threads e.threads e.whole e.fails.0 r e.fails.3 in
+    let part = part_of_run (form_runs f) c.threads e.allowed.threads e.allowed.whole e.fails.0 r e.fails.3 in
     let main = failed_is_main f part.0.function part.0.handle (slice_get f.threads part.0.function) part.0.script r e.fails.2 part.1.0 e.fails.4 in
-    let zero : part.0.handle ≡ 0 = main_is_zero f (execution_of c e.threads) ex e.fails.0 (thread_of part.0 r) part.2 main.0 in
-    let acts : actions_of (threads_of c.threads e.threads) 0 ≡ r.actions = ap (actions_of (threads_of c.threads e.threads)) (sym zero) ∙ actions_of-thread (threads_of c.threads e.threads) e.well_made.rising e.fails.0 (thread_of part.0 r) part.2 in
+    let zero : part.0.handle ≡ 0 = main_is_zero f (execution_of c e.allowed.threads) ex e.fails.0 (thread_of part.0 r) part.2 main.0 in
+    let acts : actions_of (threads_of c.threads e.allowed.threads) 0 ≡ r.actions = ap (actions_of (threads_of c.threads e.allowed.threads)) (sym zero) ∙ actions_of-thread (threads_of c.threads e.allowed.threads) e.allowed.well_made.rising e.fails.0 (thread_of part.0 r) part.2 in
     let wrong : WrongRead f.checks (first_handle 0) (length f.created) r.actions =
     subst (λ own. WrongRead f.checks (first_handle own) (length f.created) r.actions) zero (main_failed f part.0.handle part.0.script r e.fails.2 main.1 e.fails.4) in
     subst (WrongRead f.checks 1 (length f.created)) (sym acts) wrong
@@ -45,5 +45,5 @@ main_fails f p c e =
 pub none_fails : (f : Form) → IsProgram f → ((e : Event) (v : ℕ) → Final f e v → All (λ c. c.value ≡ v) f.checks) → (c : Candidate) → FormFails f c → ⊥
 none_fails f p safe c e =
     let w = main_fails f p c e in
-    let last = read_is_final f (execution_of c e.threads) (execution_is f p c e) e.consistent w in
+    let last = read_is_final f (execution_of c e.allowed.threads) (execution_is f p c e) e.allowed.consistent w in
     w.wrong (sym (All-slice_get (λ k. k.value ≡ w.value) f.checks w.number w.check (safe last.0 w.value last.1) w.is_check))

@@ -50,7 +50,7 @@ shows_own f program x p q checked form =
     let fails : ProgramFails q Sc (shown f x) = fails_in_program q f form (shown f x) (execution_fails f program x.event x.value p.final x.check p.check p.is_check p.other p.first) in
     record {
       fails = fails;
-      first = main_fails_first f program x p fails.threads (whole_in_form q f form (shown f x).threads fails.threads fails.whole);
+      first = main_fails_first f program x p fails.allowed.threads (whole_in_form q f form (shown f x).threads fails.allowed.threads fails.allowed.whole);
       spellable = spelled q f checked (shape_of-form q f form) program x p;
     }
 

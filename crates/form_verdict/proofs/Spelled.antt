@@ -16,7 +16,8 @@ use Rattle.c_check.specs.declared.checked.Checked.{Checked}
 use Rattle.c_check.specs.Checked.{cells_of}
 use Rattle.c_check.specs.WellFormed.{IsChecked}
 use Rattle.run_model.specs.Programs.{shape_of}
-use Rattle.witness_text.specs.Spelling.{IsSpellable, cell_names, rises, rises_from, handle_before, reader_before, is_action}
+use Rattle.c_check.specs.PlainNames.{cell_names}
+use Rattle.witness_text.specs.Spelling.{IsSpellable, rises, rises_from, handle_before, reader_before, is_action}
 use Rattle.first_form.specs.declared.form.Form.{Form}
 use Rattle.first_form.specs.Form.{IsProgram}
 use Rattle.form_verdict.specs.declared.search.Failure.{Failure}

@@ -12,6 +12,3 @@ mod search;
 mod verdict;
 
 pub use verdict::{FormFailure, FormVerdict, decide_form};
-
-#[cfg(test)]
-mod tests;
