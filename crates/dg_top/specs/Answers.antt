@@ -11,27 +11,27 @@ use Rattle.axiom_model.specs.declared.MemoryModel.{MemoryModel}
 use Rattle.axiom_model.specs.declared.MemoryModel.TheVariants.{Sc}
 use Rattle.axiom_model.specs.Failing.{FailsFirst}
 use Rattle.c_check.specs.declared.checked.Checked.{Checked}
+use Rattle.c_check.specs.PlainNames.{cell_names}
 use Rattle.first_form.specs.Whole.{form_of}
 use Rattle.run_model.specs.Threads.{ProgramFails}
 use Rattle.exec_check.specs.declared.Reject.{Reject}
 use Rattle.exec_check.specs.declared.Reject.TheVariants as reject
 use Rattle.exec_check.specs.Broken.{IsFirstBroken}
-use Rattle.witness_text.specs.Spelling.{Refuses, Spells, cell_names}
-use Rattle.witness_text.specs.Witness.{witness_text}
+use Rattle.witness_text.specs.Spelling.{Refuses, Spells}
 use Rattle.c_program.specs.Accepting.{IsAccepted, IsRefused}
 use Rattle.dg_top.specs.declared.settings.Job.TheVariants.{Verify, Replay}
 use Rattle.dg_top.specs.declared.settings.Settings.{Settings}
-use Rattle.dg_top.specs.Refusals.{place_text, refusal_text}
-use Rattle.dg_top.specs.Rejects.{reject_text}
+use Rattle.dg_top.specs.RefusalText.{place_text, refusal_text}
+use Rattle.dg_top.specs.RejectText.{reject_text}
 use Rattle.dg_top.specs.Settings.{Word, files_of, settings_of}
 
 -- an answer, with the values that it shows
 pub data Answer : Type 0 where
   -- no execution fails
   Safe : Answer
-  -- this candidate of this program is a failing execution; the handle and the place of the failing thread, and whether it spends a bound there
-  Unsafe : Checked → Candidate → ℕ → Place → Bool → Answer
-  -- the witness is a failing execution; the same of its failing thread
+  -- this text is a witness of a failing execution; the handle and the place of its failing thread, and whether it spends a bound there
+  Unsafe : List ℕ → ℕ → Place → Bool → Answer
+  -- the witness that was given is a failing execution; the same of its failing thread
   Failing : ℕ → Place → Bool → Answer
   -- the witness is no failing execution of this program
   Rejected : Checked → Reject → Answer
@@ -54,8 +54,8 @@ IsDecided m p = (m ≡ Sc) × (form_of p.program ≢ None)
 pub data IsVerdict (m : MemoryModel) (p : Checked) : Answer → Type 0 where
   not_yet : (IsDecided m p → ⊥) → IsVerdict m p NotYet
   safe : IsDecided m p → ((c : Candidate) → ProgramFails p m c → ⊥) → IsVerdict m p Safe
-  unsafe : (c : Candidate) (handle : ℕ) (at : Place) (bound : Bool) → IsDecided m p → (x : ProgramFails p m c) → FailsFirst c x.allowed.threads handle at bound
-      → IsVerdict m p (Unsafe p c handle at bound)
+  unsafe : (c : Candidate) (witness : List ℕ) (handle : ℕ) (at : Place) (bound : Bool) → IsDecided m p → Spells p.functions (cell_names p.cells) c witness
+      → (x : ProgramFails p m c) → FailsFirst c x.allowed.threads handle at bound → IsVerdict m p (Unsafe witness handle at bound)
 
 -- what is answered of a witness's text for a program under a model
 pub data IsReplay (m : MemoryModel) (p : Checked) (witness : List ℕ) : Answer → Type 0 where
@@ -90,7 +90,7 @@ pub data Allowed (words : List Word) (files : List FileEntry) : Answer → Type 
 
 abbrev pub status_of : Answer → ℕ
 status_of Safe = 0
-status_of (Unsafe p c handle at bound) = 1
+status_of (Unsafe witness handle at bound) = 1
 status_of (Failing handle at bound) = 0
 status_of (Rejected p e) = 1
 status_of BadWords = 3
@@ -112,7 +112,7 @@ failing_line word handle at bound = word ++ bound_text bound ++ codes " thread "
 
 abbrev pub text_of : Answer → List ℕ
 text_of Safe = codes "SAFE" ++ line_feed
-text_of (Unsafe p c handle at bound) = failing_line (codes "UNSAFE") handle at bound ++ witness_text p.functions (cell_names p.cells) c
+text_of (Unsafe witness handle at bound) = failing_line (codes "UNSAFE") handle at bound ++ witness
 text_of (Failing handle at bound) = failing_line (codes "FAILING") handle at bound
 text_of (Rejected p e) = codes "REFUSED " ++ reject_text (cell_names p.cells) e ++ line_feed
 text_of BadWords = codes "words Form" ++ line_feed

@@ -1,6 +1,6 @@
 pub mod Settings
-pub mod Refusals
-pub mod Rejects
+pub mod RefusalText
+pub mod RejectText
 pub mod Answers
 pub mod Replies
 pub mod Laws

@@ -1,18 +1,29 @@
 -- A reply as an answer's status and text.
-use Rattle.std.specs.Prelude.{◌≡◌, ℕ, ◌<◌, ◌≤◌, List, [], Option, Some, None, Contains, length}
+use Rattle.std.specs.Prelude.{◌≡◌, ℕ, ◌<◌, ◌≤◌, Bool, List, [], Option, Some, None, Contains, length}
+use Rattle.dg_base.specs.declared.Place.{Place}
 use Rattle.dg_base.specs.declared.outside.FileEntry.{FileEntry}
 use Rattle.dg_base.specs.declared.outside.TheConstants.{LONGEST_FILE}
 use Rattle.dg_base.specs.declared.outside.Operation.TheVariants.{Fetch}
 use Rattle.dg_base.specs.Outside.{Faults, IsFault, Told, contents}
+use Rattle.axiom_model.specs.declared.Candidate.{Candidate}
+use Rattle.c_check.specs.declared.checked.Checked.{Checked}
+use Rattle.c_check.specs.PlainNames.{cell_names}
+use Rattle.witness_text.specs.Spelling as spelling
 use Rattle.dg_top.specs.declared.reply.Reply.{Reply}
 use Rattle.dg_top.specs.declared.settings.Settings.{Settings}
-use Rattle.dg_top.specs.Answers.{Answer, status_of, text_of}
+use Rattle.dg_top.specs.Answers.{Answer, Unsafe, status_of, text_of}
 use Rattle.dg_top.specs.Settings.{Word, files_of, settings_of}
 
 -- the reply is this answer
 pub record Spells (a : Answer) (r : Reply) : Type 0 where
   pub status : r.status ≡ status_of a
   pub text : r.text.items ≡ text_of a
+
+-- the reply is the answer with this failing execution, by a text that spells it
+pub record IsUnsafe (p : Checked) (c : Candidate) (handle : ℕ) (at : Place) (bound : Bool) (r : Reply) : Type 0 where
+  pub witness : List ℕ
+  pub spells : spelling.Spells p.functions (cell_names p.cells) c witness
+  pub spelled : Spells (Unsafe witness handle at bound) r
 
 -- the reply is one of these answers
 pub record IsOneOf (P : Answer → Type 0) (r : Reply) : Type 0 where

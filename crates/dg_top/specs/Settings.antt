@@ -1,5 +1,5 @@
 -- What the words of the command line ask for: the program's name, the job, its files, then options.
-use Rattle.std.specs.Prelude.{ℕ, ◌+◌, ◌-◌, ◌*◌, ◌≤◌, nat_le, List, [], ◌∷◌, Bool, false, not, ◌&&◌, if◌then◌else◌, Option, Some, None, codes, bytes_eq, take, drop, nat_eq}
+use Rattle.std.specs.Prelude.{ℕ, ◌+◌, ◌-◌, ◌*◌, ◌≤◌, nat_le, List, [], ◌∷◌, Bool, true, false, not, ◌&&◌, if◌then◌else◌, Option, Some, None, codes, bytes_eq, take, drop, nat_eq}
 use Rattle.std.specs.List.{starts_with}
 use Rattle.axiom_model.specs.declared.MemoryModel.{MemoryModel}
 use Rattle.axiom_model.specs.declared.MemoryModel.TheVariants.{Sc, Tso, Pso}
@@ -41,7 +41,7 @@ IsWithin (Some k) = (1 ≤ k) × (k ≤ 64)
 -- ---- options: each is given once at most
 
 abbrev pub no_options : Options
-no_options = record { model = None; bound = None }
+no_options = record { model = None; bound = None; full = false }
 
 abbrev pub add_model : Option MemoryModel → Options → Word → Option Options
 add_model (Some m) o w = None
@@ -51,17 +51,29 @@ abbrev pub add_bound : Option ℕ → Options → Word → Option Options
 add_bound (Some k) o w = None
 add_bound None o w = given (bound_named w) (λ k. Some (record o { bound = Some k }))
 
+-- `--full` has no value
+abbrev pub add_full : Bool → Options → Option Options
+add_full true o = None
+add_full false o = Some (record o { full = true })
+
+abbrev pub is_full : Word → Bool
+is_full w = bytes_eq w (codes "--full")
+
 -- one more option, with its value
 abbrev pub add_option : Options → Word → Word → Option Options
 add_option o name value =
     if bytes_eq name (codes "--model") then add_model o.model o value
     else (if bytes_eq name (codes "--unroll") then add_bound o.bound o value else None)
 
+-- the options that words give, behind those that were read, where an option waits for its value or none does
+abbrev pub options_from : Option Word → Options → List Word → Option Options
+options_from None o [] = Some o
+options_from (Some name) o [] = None
+options_from None o (w ∷ ws) = if is_full w then given (add_full o.full o) (λ p. options_from None p ws) else options_from (Some w) o ws
+options_from (Some name) o (v ∷ ws) = given (add_option o name v) (λ p. options_from None p ws)
+
 abbrev pub options_of : List Word → Option Options
-options_of [] = Some no_options
-options_of (a ∷ v ∷ []) = add_option no_options a v
-options_of (a ∷ v ∷ b ∷ w ∷ []) = given (add_option no_options a v) (λ o. add_option o b w)
-options_of _ = None
+options_of ws = options_from None no_options ws
 
 -- the model where none is given, and how often a loop runs at most where nothing is said
 abbrev pub model_or : Option MemoryModel → MemoryModel
@@ -91,9 +103,8 @@ are_files Verify (a ∷ ws) = is_file a
 are_files Replay (a ∷ b ∷ ws) = is_file a && is_file b
 are_files _ _ = false
 
--- no words ask for spent bounds to be told yet
 abbrev pub settled : Job → Options → Settings
-settled j o = record { job = j; model = model_or o.model; bound = bound_or o.bound; full = false }
+settled j o = record { job = j; model = model_or o.model; bound = bound_or o.bound; full = o.full }
 
 -- the job on files, with the options behind them
 abbrev pub job_with : Job → List Word → Option Settings

@@ -1,11 +1,12 @@
-// From the words of the command line and the desk to the status: the top call.
-ghost use Rattle.std.specs.Prelude.{◌≡◌, ◌≢◌, ◌⊎◌, ◌≤◌, ◌<◌, ◌∷◌, [], Some, None, IfOk, IfSome, Ok, Err, option_map};
+// The top call: from the words of the command line and the desk to the status.
+ghost use Rattle.std.specs.Prelude.{◌≡◌, ◌≢◌, ◌↔◌, ◌⊎◌, ◌≤◌, ◌<◌, ◌∷◌, [], Some, None, IfOk, IfSome, Ok, Err, option_map};
 ghost use Rattle.dg_base.specs.declared.outside.Operation.TheVariants.{Fetch, Print};
 ghost use Rattle.dg_base.specs.declared.outside.Trouble.TheVariants.{Failed, Long};
 ghost use Rattle.dg_base.specs.Outside.{IsFault, Told, Unchanged};
 ghost use Rattle.dg_top.specs.declared.settings.Job.TheVariants.{Verify, Replay};
 ghost use Rattle.dg_top.specs.Answers.{Allowed, IsAnswerOf, IsStatus, Outcome};
 ghost use Rattle.dg_top.specs.Replies.{FetchFails, IsFetched, Replies, files_named};
+ghost use Rattle.dg_top.specs.Settings as read;
 
 use crate::replay::replay;
 use crate::reply::{Reply, bad_words, long_file};
@@ -43,6 +44,7 @@ fn verify_file<D: Desk>(
     requires job { settings.now.job ≡ Verify }
     requires bound { (1 ≤ settings.now.bound) × (settings.now.bound ≤ 64) }
     ensures replies { IfOk result (Replies (IsAnswerOf settings.now (name.now ∷ [])) (D.files desk.old)) }
+    ensures status { IfOk result (λ r. r.status ≢ 3) }
     ensures files { D.files desk.new ≡ D.files desk.old }
     ensures printed { D.printed desk.new ≡ D.printed desk.old }
     ensures never_long { result ≢ Err Long }
@@ -66,6 +68,7 @@ fn replay_files<D: Desk>(
     requires job { settings.now.job ≡ Replay }
     requires bound { (1 ≤ settings.now.bound) × (settings.now.bound ≤ 64) }
     ensures replies { IfOk result (Replies (IsAnswerOf settings.now (program.now ∷ witness.now ∷ [])) (D.files desk.old)) }
+    ensures status { IfOk result (λ r. r.status ≢ 3) }
     ensures files { D.files desk.new ≡ D.files desk.old }
     ensures printed { D.printed desk.new ≡ D.printed desk.old }
     ensures never_long { result ≢ Err Long }
@@ -85,6 +88,8 @@ fn replay_files<D: Desk>(
 // The answer, before it is printed.
 fn answer<D: Desk>(alloc: Global, words: &Words, desk: &mut D) -> Result<Reply, Trouble>
     ensures replies { IfOk result (Replies (Allowed words.now) (D.files desk.old)) }
+    ensures status { IfOk result (λ r. (r.status ≡ 3) ↔ (read.settings_of words.now ≡ None)) }
+    ensures failed { result ≡ Err Failed → read.settings_of words.now ≢ None }
     ensures files { D.files desk.new ≡ D.files desk.old }
     ensures printed { D.printed desk.new ≡ D.printed desk.old }
     ensures never_long { result ≢ Err Long }
@@ -115,6 +120,8 @@ pub fn run<R: Threads + Sync, D: Desk, G: Gate + Sync>(
     ensures fetch_fault { result ≡ 5 → FetchFails (files_named words.now) (D.faults desk.old) (D.faults desk.new) }
     ensures output_fault { result ≡ 6 → IsFault Print [] (D.faults desk.old) (D.faults desk.new) }
     ensures no_fault { result ≢ 5 → result ≢ 6 → D.faults desk.new ≡ D.faults desk.old }
+    ensures no_settings { result ≡ 3 → read.settings_of words.now ≡ None }
+    ensures status_3 { read.settings_of words.now ≡ None → (result ≡ 3) ⊎ (result ≡ 6) ⊎ (result ≡ 7) }
     ensures known { IsStatus result }
 {
     match answer(alloc, words, desk) {

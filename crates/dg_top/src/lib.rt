@@ -7,18 +7,18 @@
 //! (`exec_check`); this crate joins their answers.
 #![tactic(auto)]
 
+mod command;
 mod laws;
-mod refusals;
-mod rejects;
+mod refusal_text;
+mod reject_text;
 mod replay;
 mod reply;
 mod settings;
-#[cfg(test)]
-mod tests;
 mod text;
-mod top_call;
 mod verify;
 
-pub use laws::failing_is_alone;
+pub use command::run;
+pub use laws::{
+    failing_is_alone, run_over_honest_desk, safe_excludes_unsafe, unsafe_is_replayed,
+};
 pub use settings::{Job, Options, Settings};
-pub use top_call::run;

@@ -1,9 +1,10 @@
 // The text of a refusal.
 ghost use Rattle.std.specs.Prelude.{◌≡◌, ◌++◌, OnOk, codes, decimal};
-ghost use Rattle.dg_top.specs.Refusals.{kind_text, place_text, refusal_text};
+ghost use Rattle.dg_top.specs.RefusalText.{kind_text, place_text, refusal_text};
 
-use crate::text::{put, put_number, put_place};
+use crate::text::put_place;
 use dg_base::{LimitKind, OutOfMemory, Place, Refusal};
+use witness_text::{put, put_number};
 
 // Appends the name of the refusal and its place.
 fn put_placed(out: &mut Vec<u8>, name: &[u8], place: Place) -> Result<(), OutOfMemory>

@@ -1,14 +1,14 @@
 // The text of why a candidate is no failing execution.
 ghost use Rattle.std.specs.Prelude.{◌≡◌, ◌++◌, OnOk, codes, decimal, map};
-ghost use Rattle.witness_text.specs.Spelling.{cell_names};
+ghost use Rattle.c_check.specs.PlainNames.{cell_names};
 ghost use Rattle.witness_text.specs.Witness.{event_text, events_text, name_at};
-ghost use Rattle.dg_top.specs.Rejects.{reject_text};
+ghost use Rattle.dg_top.specs.RejectText.{reject_text};
 
-use crate::text::{put, put_number};
 use axiom_model::Event;
 use c_check::CellInfo;
 use dg_base::OutOfMemory;
 use exec_check::Reject;
+use witness_text::{put, put_event, put_events, put_number};
 
 // Appends the words and the number.
 fn put_numbered(out: &mut Vec<u8>, name: &[u8], number: u32) -> Result<(), OutOfMemory>
@@ -18,36 +18,11 @@ fn put_numbered(out: &mut Vec<u8>, name: &[u8], number: u32) -> Result<(), OutOf
     put_number(out, number)
 }
 
-// Appends `init` or `H.I`.
-fn put_event(out: &mut Vec<u8>, event: Event) -> Result<(), OutOfMemory>
-    ensures { OnOk result (out.new.items ≡ out.old.items ++ event_text event) }
-{
-    match event {
-        Event::Initial => put(out, b"init"),
-        Event::At { handle, index } => {
-            put_number(out, handle)?;
-            put(out, b".")?;
-            put_number(out, index)
-        }
-    }
-}
-
 fn put_at(out: &mut Vec<u8>, name: &[u8], event: Event) -> Result<(), OutOfMemory>
     ensures { OnOk result (out.new.items ≡ out.old.items ++ (name.now ++ event_text event)) }
 {
     put(out, name)?;
     put_event(out, event)
-}
-
-// Appends the events, each behind one blank.
-fn put_events(out: &mut Vec<u8>, events: &[Event]) -> Result<(), OutOfMemory>
-    ensures { OnOk result (out.new.items ≡ out.old.items ++ events_text events.now) }
-{
-    for event in events {
-        put(out, b" ")?;
-        put_event(out, *event)?;
-    }
-    Ok(())
 }
 
 fn put_cycle(out: &mut Vec<u8>, name: &[u8], events: &[Event]) -> Result<(), OutOfMemory>

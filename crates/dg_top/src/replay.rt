@@ -1,7 +1,8 @@
 // The job `replay`: whether a witness is a failing execution of a program.
 ghost use Rattle.std.specs.Prelude.{◌≡◌, ◌≢◌, ◌↔◌, ◌≤◌, ◌∷◌, [], IfOk, IsTrue};
 ghost use Rattle.c_check.specs.WellFormed.{IsChecked};
-ghost use Rattle.witness_text.specs.Spelling.{HasPlainNames, Spells, cell_names};
+ghost use Rattle.c_check.specs.PlainNames.{HasPlainNames, cell_names};
+ghost use Rattle.witness_text.specs.Spelling.{Spells};
 ghost use Rattle.dg_top.specs.declared.settings.Job.TheVariants.{Replay};
 ghost use Rattle.dg_top.specs.Answers.{IsAnswer, IsReplay, Rejected};
 ghost use Rattle.dg_top.specs.Replies as replies;
@@ -22,22 +23,8 @@ fn lacks_memory(reject: &Reject) -> bool
     ensures { IsTrue result ↔ (reject.now ≡ Reject.OutOfMemory) }
 {
     match reject {
-        Reject::MainMissing => false,
-        Reject::ThreadTwice(_) => false,
-        Reject::UnknownThread(_) => false,
-        Reject::ScriptShort(_) => false,
-        Reject::ScriptLong(_) => false,
-        Reject::BadRun(_) => false,
-        Reject::NoCreate(_) => false,
-        Reject::NoThread(_) => false,
-        Reject::BadSource(_) => false,
-        Reject::BadOrder(_) => false,
-        Reject::BadJoin(_) => false,
-        Reject::LocalCycle(_) => false,
-        Reject::GlobalCycle(_) => false,
-        Reject::BlockCycle(_) => false,
-        Reject::NotFailing => false,
         Reject::OutOfMemory => true,
+        _ => false,
     }
 }
 

@@ -1,19 +1,19 @@
 // The answers as status and text.
 ghost use Rattle.std.specs.Prelude.{◌≡◌, ◌≢◌, ◌↔◌, IfOk, IsTrue};
 ghost use Rattle.dg_top.specs.Answers.{BadWitness, BadWords, Failing, LongFile, NotYet, Refused, Rejected, Safe};
-ghost use Rattle.dg_top.specs.Answers as answers;
-ghost use Rattle.dg_top.specs.Replies.{Spells};
-ghost use Rattle.witness_text.specs.Spelling.{IsSpellable, cell_names};
+ghost use Rattle.dg_top.specs.Replies.{IsUnsafe, Spells};
+ghost use Rattle.c_check.specs.PlainNames.{cell_names};
+ghost use Rattle.witness_text.specs.Spelling.{IsSpellable};
 
-use crate::refusals::put_refusal;
-use crate::rejects::put_reject;
-use crate::text::{put, put_failing_line, put_number};
+use crate::refusal_text::put_refusal;
+use crate::reject_text::put_reject;
+use crate::text::put_failing_line;
 use axiom_model::Candidate;
 use c_check::Checked;
 use dg_base::{OutOfMemory, Place, Refusal};
 use exec_check::Reject;
 use std::alloc::Global;
-use witness_text::print_witness;
+use witness_text::{print_witness, put, put_number};
 
 /// An answer: the status of the process, and the bytes that are printed.
 #[derive(Debug, Drop)]
@@ -54,17 +54,8 @@ fn lacks_memory(refusal: &Refusal) -> bool
     ensures { IsTrue result ↔ (refusal.now ≡ Refusal.OutOfMemory) }
 {
     match refusal {
-        Refusal::BadByte(_) => false,
-        Refusal::Unsupported(_, _) => false,
-        Refusal::Syntax(_) => false,
-        Refusal::NoMain => false,
-        Refusal::Duplicate(_) => false,
-        Refusal::Unknown(_) => false,
-        Refusal::BadType(_) => false,
-        Refusal::UnmatchedAtomic(_) => false,
-        Refusal::Recursion(_) => false,
-        Refusal::Limit(_, _) => false,
         Refusal::OutOfMemory => true,
+        _ => false,
     }
 }
 
@@ -104,7 +95,7 @@ pub fn unsafe_at(
     bound: bool,
 ) -> Result<Reply, OutOfMemory>
     requires { IsSpellable checked.now.functions (cell_names checked.now.cells) candidate.now }
-    ensures { IfOk result (Spells (answers.Unsafe checked.now candidate.now handle place bound)) }
+    ensures { IfOk result (IsUnsafe checked.now candidate.now handle place bound) }
 {
     let witness = print_witness(alloc, checked, candidate)?;
     let mut text = Vec::new(alloc);

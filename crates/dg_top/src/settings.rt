@@ -1,5 +1,5 @@
 // What the words of the command line ask for.
-ghost use Rattle.std.specs.Prelude.{◌≡◌, ◌≤◌, ◌+◌, IfSome, IsTrue, drop, length};
+ghost use Rattle.std.specs.Prelude.{◌≡◌, ◌≤◌, ◌+◌, None, IfSome, IsTrue, drop, length};
 ghost use Rattle.dg_top.specs.Settings as read;
 ghost use Rattle.dg_top.specs.Settings.{IsWithin, file_count};
 
@@ -22,6 +22,8 @@ pub struct Options {
     pub model: Option<MemoryModel>,
     /// `--unroll K`: how often a loop runs at most, from 1 to 64.
     pub bound: Option<u32>,
+    /// `--full`: a loop that uses up its bound fails.
+    pub full: bool,
 }
 
 /// What the words ask for.
@@ -33,7 +35,7 @@ pub struct Settings {
     pub model: MemoryModel,
     /// How often a loop runs at most; 2 where nothing is said.
     pub bound: u32,
-    /// Whether a loop that uses up its bound fails. No words ask for it yet.
+    /// Whether a loop that uses up its bound fails.
     pub full: bool,
 }
 
@@ -94,7 +96,7 @@ fn add_model(options: Options, value: &str) -> Option<Options>
     let model = model_named(value)?;
     Some(Options {
         model: Some(model),
-        bound: options.bound,
+        ..options
     })
 }
 
@@ -108,8 +110,22 @@ fn add_bound(options: Options, value: &str) -> Option<Options>
     }
     let bound = bound_named(value)?;
     Some(Options {
-        model: options.model,
         bound: Some(bound),
+        ..options
+    })
+}
+
+fn add_full(options: Options) -> Option<Options>
+    requires { IsWithin options.bound }
+    ensures value { result ≡ read.add_full options.full options }
+    ensures within { IfSome result (λ o. IsWithin o.bound) }
+{
+    if options.full {
+        return None;
+    }
+    Some(Options {
+        full: true,
+        ..options
     })
 }
 
@@ -128,26 +144,24 @@ fn add_option(options: Options, name: &str, value: &str) -> Option<Options>
     }
 }
 
-// The options from this word on.
-fn options_from(words: &Words, at: usize) -> Option<Options>
-    requires { at ≤ length words.now }
-    ensures value { result ≡ read.options_of (drop at words.now) }
+// The options from this word on, behind those that were read. Each is given once at most, so the calls are few.
+fn options_from(words: &Words, at: usize, options: Options) -> Option<Options>
+    requires at { at ≤ length words.now }
+    requires bound { IsWithin options.bound }
+    ensures value { result ≡ read.options_from None options (drop at words.now) }
     ensures within { IfSome result (λ o. IsWithin o.bound) }
 {
-    let none = Options {
-        model: None,
-        bound: None,
-    };
-    match words.len() - at {
-        0 => Some(none),
-        2 => add_option(none, words.word(at), words.word(at + 1)),
-        4 => {
-            let (name, value) = (words.word(at + 2), words.word(at + 3));
-            let one = add_option(none, words.word(at), words.word(at + 1))?;
-            add_option(one, name, value)
-        }
-        _ => None,
+    if at == words.len() {
+        return Some(options);
     }
+    if words.word(at) == "--full" {
+        return options_from(words, at + 1, add_full(options)?);
+    }
+    if at + 1 == words.len() {
+        return None;
+    }
+    let more = add_option(options, words.word(at), words.word(at + 1))?;
+    options_from(words, at + 2, more)
 }
 
 fn job_named(word: &str) -> Option<Job>
@@ -199,7 +213,7 @@ fn settled(job: Job, options: Options) -> Settings
         job,
         model: options.model.unwrap_or(MemoryModel::Sc),
         bound: options.bound.unwrap_or(2),
-        full: false,
+        full: options.full,
     }
 }
 
@@ -213,7 +227,12 @@ fn job_with(words: &Words, job: Job) -> Option<Settings>
     if !are_files(words, job) {
         return None;
     }
-    let options = options_from(words, 2 + file_count(job))?;
+    let none = Options {
+        model: None,
+        bound: None,
+        full: false,
+    };
+    let options = options_from(words, 2 + file_count(job), none)?;
     Some(settled(job, options))
 }
 

@@ -1,26 +1,10 @@
-// Parts of texts.
-ghost use Rattle.std.specs.Prelude.{◌≡◌, ◌++◌, OnOk, codes, decimal};
-ghost use Rattle.dg_top.specs.Answers.{failing_line};
-ghost use Rattle.dg_top.specs.Refusals.{place_text};
+// The parts of texts that several answers have: places, and the line on a failing thread.
+ghost use Rattle.std.specs.Prelude.{◌≡◌, ◌++◌, OnOk, codes};
+ghost use Rattle.dg_top.specs.Answers.{bound_text, failing_line};
+ghost use Rattle.dg_top.specs.RefusalText.{place_text};
 
 use dg_base::{OutOfMemory, Place};
-use itoa::Buffer;
-
-/// Appends the bytes.
-pub fn put(out: &mut Vec<u8>, bytes: &[u8]) -> Result<(), OutOfMemory>
-    ensures { OnOk result (out.new.items ≡ out.old.items ++ bytes.now) }
-{
-    out.extend_from_slice(bytes)?;
-    Ok(())
-}
-
-/// Appends the number, in decimal digits.
-pub fn put_number(out: &mut Vec<u8>, n: u32) -> Result<(), OutOfMemory>
-    ensures { OnOk result (out.new.items ≡ out.old.items ++ decimal n) }
-{
-    let mut buffer = Buffer::new();
-    put(out, buffer.format(n).as_bytes())
-}
+use witness_text::{put, put_number};
 
 /// Appends `L:C`.
 pub fn put_place(out: &mut Vec<u8>, place: Place) -> Result<(), OutOfMemory>
@@ -29,6 +13,12 @@ pub fn put_place(out: &mut Vec<u8>, place: Place) -> Result<(), OutOfMemory>
     put_number(out, place.line)?;
     put(out, b":")?;
     put_number(out, place.col)
+}
+
+fn bound_word(bound: bool) -> &'static [u8]
+    ensures { result.now ≡ bound_text bound }
+{
+    if bound { b" bound" } else { b"" }
 }
 
 /// Appends `WORD thread H at L:C`, or where a bound is spent `WORD bound thread H at L:C`, as a line.
@@ -42,9 +32,7 @@ pub fn put_failing_line(
     ensures { OnOk result (out.new.items ≡ out.old.items ++ failing_line word.now handle at bound) }
 {
     put(out, word)?;
-    if bound {
-        put(out, b" bound")?;
-    }
+    put(out, bound_word(bound))?;
     put(out, b" thread ")?;
     put_number(out, handle)?;
     put(out, b" at ")?;

@@ -5,7 +5,7 @@ use Rattle.dg_top.specs.Settings.{settings_of}
 use Rattle.dg_top.proofs.Outcomes.{always, widened}
 use Rattle.dg_top.proofs.Texts.{if_ok}
 use Rattle.dg_top.proofs.Words.{replay_names, verify_names}
-use Rattle.dg_top.proofs.top_call.answer.Goals as goal
+use Rattle.dg_top.proofs.command.answer.Goals as goal
 
 pub returns-in_default-clause-replies : goal.returns-in_default-clause-replies
 returns-in_default-clause-replies g c =

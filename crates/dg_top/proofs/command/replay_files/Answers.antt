@@ -4,7 +4,7 @@ use Rattle.dg_base.specs.Outside.{Told}
 use Rattle.dg_base.specs.declared.outside.Trouble.TheVariants.{Failed}
 use Rattle.dg_top.specs.Replies.{IsFetched}
 use Rattle.dg_top.proofs.Files.{first_too_long, no_ok, same_err, second_fault, second_too_long, two_files}
-use Rattle.dg_top.proofs.top_call.replay_files.Goals as goal
+use Rattle.dg_top.proofs.command.replay_files.Goals as goal
 
 pub returns-in_default-clause-replies : goal.returns-in_default-clause-replies
 returns-in_default-clause-replies g c =

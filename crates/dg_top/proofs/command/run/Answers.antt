@@ -2,7 +2,7 @@
 use Rattle.std.proofs.Common.{Err, Ok, subst}
 use Rattle.dg_base.specs.Outside.{Changes, Prints}
 use Rattle.dg_top.proofs.Outcomes.{memory_outcome, printed_part, printed_whole, unchanged, unfetched_outcome, unprinted_memory}
-use Rattle.dg_top.proofs.top_call.run.Goals as goal
+use Rattle.dg_top.proofs.command.run.Goals as goal
 
 pub returns-in-Ok-print-clause-outcome : goal.returns-in-Ok-print-clause-outcome
 returns-in-Ok-print-clause-outcome g c =

@@ -3,7 +3,7 @@ use Rattle.dg_base.specs.Outside.{Told}
 use Rattle.dg_top.specs.Answers.{IsAnswer}
 use Rattle.dg_top.specs.Replies.{IsFetched, IsOneOf}
 use Rattle.dg_top.proofs.Files.{first_too_long, one_file}
-use Rattle.dg_top.proofs.top_call.verify_file.Goals as goal
+use Rattle.dg_top.proofs.command.verify_file.Goals as goal
 
 pub returns-in_default-clause-replies : goal.returns-in_default-clause-replies
 returns-in_default-clause-replies g c =

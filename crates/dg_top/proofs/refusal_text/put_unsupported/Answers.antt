@@ -1,8 +1,8 @@
 use Rattle.std.proofs.Common.{◌≡◌, ◌++◌, append_assoc, ◌∙◌}
 use Rattle.std.specs.Prelude.{codes}
-use Rattle.dg_top.specs.Refusals.{place_text}
+use Rattle.dg_top.specs.RefusalText.{place_text}
 use Rattle.dg_top.proofs.Texts.{on_ok, then_part}
-use Rattle.dg_top.proofs.refusals.put_unsupported.Goals as goal
+use Rattle.dg_top.proofs.refusal_text.put_unsupported.Goals as goal
 
 pub returns : goal.returns
 returns c = on_ok c.put-2.result _ _ whole c.put-2.ensures

@@ -1,7 +1,7 @@
 // Programs that are well formed and not of the first form.
 
 // A program as a user of software verification has it, with includes, externs and attributes.
-pub(super) fn fibonacci() -> &'static str {
+pub(crate) fn fibonacci() -> &'static str {
     "#include <pthread.h>
 extern void abort(void);
 extern void __assert_fail(const char *, const char *, unsigned int, const char *) __attribute__ ((__nothrow__ , __leaf__)) __attribute__ ((__noreturn__));
@@ -32,7 +32,7 @@ int main(int argc, char **argv) {
 }
 
 // Two threads count under a mutex.
-pub(super) fn counting() -> &'static str {
+pub(crate) fn counting() -> &'static str {
     "int x; pthread_mutex_t m;
 void *f(void *p) { pthread_mutex_lock(&m); x = x + 1; pthread_mutex_unlock(&m); return 0; }
 int main() {
@@ -45,7 +45,7 @@ int main() {
 }
 
 // The same, created and joined in loops over an array.
-pub(super) fn counting_in_loops() -> &'static str {
+pub(crate) fn counting_in_loops() -> &'static str {
     "int x; pthread_mutex_t m = PTHREAD_MUTEX_INITIALIZER;
 void *f(void *p) { pthread_mutex_lock(&m); x = x + 1; pthread_mutex_unlock(&m); return 0; }
 int main() {
@@ -58,7 +58,7 @@ int main() {
 }
 
 // The program's own `assert` and `reach_error`.
-pub(super) fn own_assertions() -> &'static str {
+pub(crate) fn own_assertions() -> &'static str {
     "void assert(int e) { if (!e) reach_error(); }
 void reach_error() { abort(); }
 int main() { assert(1); return 0; }

@@ -1,5 +1,6 @@
 // Witnesses, and what `replay` says of them.
-use super::{call, desk_with};
+use crate::calls::{call, desk_with};
+use crate::verify::{row_1, row_1_answer};
 use std::alloc::Global;
 use std::test::Fail;
 use std::thread::Threads;
@@ -248,27 +249,57 @@ fn what_no_model_allows_is_refused(rt: HostRuntime) -> Result<(), Fail> {
     Ok(())
 }
 
-// The program is read for the given bound: its loop goes on after two turns, and fails behind three.
+// Options, the status and the answer for the witness without script of a loop that turns three times before an assertion fails.
+fn by_bound() -> &'static [(&'static str, u8, &'static str)] {
+    &[
+        ("--unroll 2", 1, "REFUSED NotFailing\n"),
+        ("--unroll 3", 0, "FAILING thread 0 at 2:1\n"),
+        ("--unroll 2 --full", 0, "FAILING bound thread 0 at 1:14\n"),
+        (
+            "--full --unroll 2 --model tso",
+            0,
+            "FAILING bound thread 0 at 1:14\n",
+        ),
+        ("--full --unroll 3", 0, "FAILING thread 0 at 2:1\n"),
+        ("--full", 0, "FAILING bound thread 0 at 1:14\n"),
+    ]
+}
+
+// The loop goes no further behind its bound; with `--full` it fails there.
 #[test]
 fn loops_are_cut_at_the_bound(rt: HostRuntime) -> Result<(), Fail> {
     let program = "int main() { for (int i = 0; i < 3; i++) ;\nassert(0); return 0; }";
     let witness = "deagle-witness 1\nthread 0 main 0\nscript\nend\n";
-    let told = replayed(
-        &rt,
-        program,
-        witness,
-        "deagle replay prog.c w --unroll 2",
-        1,
-    )?;
-    assert_eq!(rt; told.as_str(), "REFUSED NotFailing\n");
-    let told = replayed(
-        &rt,
-        program,
-        witness,
-        "deagle replay prog.c w --unroll 3",
-        0,
-    )?;
-    assert_eq!(rt; told.as_str(), "FAILING thread 0 at 2:1\n");
+    for (options, status, wanted) in by_bound() {
+        let mut line = String::from_str(rt.alloc(), "deagle replay prog.c w ")?;
+        line.push_str(options)?;
+        let told = replayed(&rt, program, witness, line.as_str(), *status)?;
+        assert_eq!(rt; told.as_str(), *wanted);
+    }
+    Ok(())
+}
+
+// One thread spends a bound and a later one fails an assertion: the assertion is told.
+#[test]
+fn an_assertion_is_told_before_a_bound(rt: HostRuntime) -> Result<(), Fail> {
+    let program = "void *f(void *p) { assert(0); return 0; }
+int main() { pthread_t t; pthread_create(&t, 0, f, 0); while (1) ; return 0; }";
+    let both = "deagle-witness 1\nthread 0 main 0\nscript\nthread 1 f 0\nscript\nend\n";
+    let line = "deagle replay prog.c w --full";
+    let told = replayed(&rt, program, both, line, 0)?;
+    assert_eq!(rt; told.as_str(), "FAILING thread 1 at 1:20\n");
+    Ok(())
+}
+
+// What is printed behind the first line of `UNSAFE` is a witness, and is judged as it was told.
+#[test]
+fn what_verify_prints_is_replayed(rt: HostRuntime) -> Result<(), Fail> {
+    let Some((first, witness)) = row_1_answer().split_once("\n") else {
+        return Ok(assert!(rt; false));
+    };
+    let told = replayed(&rt, row_1(), witness, "deagle replay prog.c w", 0)?;
+    let wanted = changed(rt.alloc(), first, "UNSAFE", "FAILING")?;
+    assert_eq!(rt; told.as_str().trim_end(), wanted.as_str());
     Ok(())
 }
 

@@ -1,14 +1,12 @@
-// The worked rows, as calls of `run` over a desk in memory.
-use crate::run;
-use dg_base::{MemDesk, OpenGate, Words};
+// What `verify` says of texts: verdicts on the first form, refusals, and programs that it does not decide yet.
+use crate::calls::{call, desk_with};
+use crate::programs;
+use dg_base::MemDesk;
 use std::alloc::Global;
 use std::test::Fail;
 use std::thread::Threads;
 
-mod programs;
-mod replays;
-
-fn row_1() -> &'static str {
+pub(crate) fn row_1() -> &'static str {
     "int x;
 void *a(void *p) { x = 1; return 0; }
 void *b(void *p) { x = 2; return 0; }
@@ -24,7 +22,7 @@ int main() {
 "
 }
 
-fn row_1_answer() -> &'static str {
+pub(crate) fn row_1_answer() -> &'static str {
     "UNSAFE thread 0 at 10:3
 deagle-witness 1
 thread 0 main 0
@@ -39,7 +37,7 @@ end
 "
 }
 
-fn same() -> &'static str {
+pub(crate) fn same() -> &'static str {
     "int x;
 void *a(void *p) { x = 1; return 0; }
 void *b(void *p) { x = 1; return 0; }
@@ -140,27 +138,6 @@ rf 0.5 2.1
 co x init 1.1 2.1
 end
 "
-}
-
-// The status of a run with the words of this line.
-fn call<R: Threads + Sync + AllocGlobal>(
-    rt: &R,
-    desk: &mut MemDesk,
-    line: &str,
-) -> Result<u8, Fail> {
-    let alloc = rt.alloc();
-    let mut words = Words::new(alloc)?;
-    for word in line.split(' ') {
-        words.push(word)?;
-    }
-    Ok(run(rt, alloc, &words, desk, &OpenGate))
-}
-
-// A desk with one file.
-fn desk_with(alloc: Global, name: &str, text: &str) -> Result<MemDesk, Fail> {
-    let mut desk = MemDesk::new(alloc)?;
-    desk.put(name, text.as_bytes())?;
-    Ok(desk)
 }
 
 // The status and whether exactly this was printed.
@@ -293,80 +270,5 @@ fn rows_on_checked_programs(rt: HostRuntime) -> Result<(), Fail> {
             "refused E10 Limit globals 1025\n"
         )?
     );
-    Ok(())
-}
-
-// Lines that are not the words of a job.
-fn bad_lines() -> &'static [&'static str] {
-    &[
-        "deagle",
-        "deagle verify",
-        "deagle check row1.c",
-        "deagle verify row1.c row1.c",
-        "deagle verify --model sc",
-        "deagle replay row1.c",
-        "deagle verify row1.c --model",
-        "deagle verify row1.c --model arm",
-        "deagle verify row1.c --unroll 0",
-        "deagle verify row1.c --unroll 65",
-        "deagle verify row1.c --unroll 02",
-        "deagle verify row1.c --model sc --model sc",
-    ]
-}
-
-#[test]
-fn rows_on_words(rt: HostRuntime) -> Result<(), Fail> {
-    for line in bad_lines() {
-        let mut desk = desk_with(rt.alloc(), "row1.c", row_1())?;
-        assert_eq!(rt; call(&rt, &mut desk, line)?, 3);
-        assert!(rt; desk.printed() == b"words Form\n".as_slice());
-    }
-    Ok(())
-}
-
-// Lines with options, and what is printed of a program that is safe.
-fn with_options() -> &'static [(&'static str, &'static str)] {
-    &[
-        ("deagle verify same.c --model sc", "SAFE\n"),
-        ("deagle verify same.c --model tso", "refused E0 NotYet\n"),
-        (
-            "deagle verify same.c --unroll 64 --model pso",
-            "refused E0 NotYet\n",
-        ),
-        ("deagle verify same.c --model sc --unroll 1", "SAFE\n"),
-    ]
-}
-
-#[test]
-fn rows_on_options(rt: HostRuntime) -> Result<(), Fail> {
-    for (line, printed) in with_options() {
-        let mut desk = desk_with(rt.alloc(), "same.c", same())?;
-        call(&rt, &mut desk, line)?;
-        assert!(rt; desk.printed() == printed.as_bytes());
-    }
-    Ok(())
-}
-
-#[test]
-fn rows_on_faults(rt: HostRuntime) -> Result<(), Fail> {
-    let mut desk = desk_with(rt.alloc(), "row1.c", row_1())?;
-    assert_eq!(rt; call(&rt, &mut desk, "deagle verify row2.c")?, 5);
-    assert!(rt; desk.printed().is_empty());
-    desk.fail_at(3)?;
-    assert_eq!(rt; call(&rt, &mut desk, "deagle verify row1.c")?, 6);
-    let answer = row_1_answer().as_bytes();
-    assert!(rt; desk.printed() == &answer[..answer.len() / 2]);
-    Ok(())
-}
-
-#[test]
-fn a_long_file_is_refused(rt: HostRuntime) -> Result<(), Fail> {
-    let length: usize = "67108865".parse()?;
-    let mut long = Vec::new(rt.alloc());
-    long.resize(length, 32u8)?;
-    let mut desk = MemDesk::new(rt.alloc())?;
-    desk.put("long.c", long.as_slice())?;
-    assert_eq!(rt; call(&rt, &mut desk, "deagle verify long.c")?, 4);
-    assert!(rt; desk.printed() == b"refused Long long.c\n".as_slice());
     Ok(())
 }
