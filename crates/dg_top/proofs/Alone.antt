@@ -15,7 +15,8 @@ use Rattle.exec_check.specs.Running.{runs_of}
 use Rattle.exec_check.specs.declared.Reject.{Reject}
 use Rattle.exec_check.specs.declared.Reject.TheVariants.{OutOfMemory}
 use Rattle.exec_check.proofs.Excluding.{runs_are}
-use Rattle.witness_text.specs.Spelling.{OneCandidate, Spells, cell_names}
+use Rattle.c_check.specs.PlainNames.{cell_names}
+use Rattle.witness_text.specs.Spelling.{OneCandidate, Spells}
 use Rattle.c_program.specs.Accepting.{IsAccepted, IsRefused, NamesArePlain, NotBoth, OneChecked}
 use Rattle.dg_top.specs.declared.settings.Settings.{Settings}
 use Rattle.dg_top.specs.Answers.{Answer, BadWitness, Failing, IsAnswer, IsReplay, IsVerdict, NotYet, Refused, Rejected, Safe, Unsafe, bad_witness, failing, not_yet, refused, rejected, replayed, safe, unsafe, verified}
@@ -80,8 +81,8 @@ module _ (h : ℕ) (at : Place) (a : Bool) where
   not_safe : Safe ≡ Failing h at a → ⊥
   not_safe e = cc
 
-  not_unsafe : (p : Checked) (c : Candidate) (k : ℕ) (bt : Place) (b : Bool) → Unsafe p c k bt b ≡ Failing h at a → ⊥
-  not_unsafe p c k bt b e = cc
+  not_unsafe : (w : List ℕ) (k : ℕ) (bt : Place) (b : Bool) → Unsafe w k bt b ≡ Failing h at a → ⊥
+  not_unsafe w k bt b e = cc
 
 first_text : (a c d : List ℕ) (rest : List (List ℕ)) → a ∷ rest ≡ c ∷ d ∷ [] → a ≡ c
 first_text a c d rest e = cc
@@ -99,7 +100,7 @@ record Shown (m : MemoryModel) (p : Checked) (witness : List ℕ) (h : ℕ) (at 
   candidate : Candidate
   spelled : Spells p.functions (cell_names p.cells) candidate witness
   fails : ProgramFails p m candidate
-  first : FailsFirst candidate fails.threads h at way
+  first : FailsFirst candidate fails.allowed.threads h at way
 
 shown : (m : MemoryModel) (p : Checked) (w : List ℕ) (h : ℕ) (at : Place) (way : Bool) (a : Answer) → a ≡ Failing h at way → IsReplay m p w a → Shown m p w h at way
 shown m p w h at way _ e (bad_witness line r) = absurd (no_line h at way line e)
@@ -109,14 +110,14 @@ shown m p w h at way _ e (failing c k bt b s x f) =
       candidate = c;
       spelled = s;
       fails = x;
-      first = subst (λ (z : Bool). FailsFirst c x.threads h at z) parts.2 (subst (λ (q : Place). FailsFirst c x.threads h q b) parts.1 (subst (λ (i : ℕ). FailsFirst c x.threads i bt b) parts.0 f));
+      first = subst (λ (z : Bool). FailsFirst c x.allowed.threads h at z) parts.2 (subst (λ (q : Place). FailsFirst c x.allowed.threads h q b) parts.1 (subst (λ (i : ℕ). FailsFirst c x.allowed.threads i bt b) parts.0 f));
     }
 shown m p w h at way _ e (rejected c r s b n) = absurd (not_rejected h at way p r e)
 
 no_verdict : (m : MemoryModel) (p : Checked) (h : ℕ) (at : Place) (way : Bool) (a : Answer) → a ≡ Failing h at way → IsVerdict m p a → ⊥
 no_verdict m p h at way _ e (not_yet d) = not_open h at way e
 no_verdict m p h at way _ e (safe d s) = not_safe h at way e
-no_verdict m p h at way _ e (unsafe c k bt b d x f) = not_unsafe h at way p c k bt b e
+no_verdict m p h at way _ e (unsafe c w k bt b d s x f) = not_unsafe h at way w k bt b e
 
 -- the texts that are answered with a failing thread
 record Given (s : Settings) (texts : List (List ℕ)) (h : ℕ) (at : Place) (way : Bool) : Type 0 where
@@ -143,10 +144,10 @@ module _ (one_checked : OneChecked) (not_both : NotBoth) (plain : NamesArePlain)
       let one : c ≡ g.candidate = one_candidate p.functions (cell_names p.cells) w c g.candidate (plain bound full text p acc) s g.spelled in
       same_thread c one x f
     where
-      same_thread : (d : Candidate) → d ≡ g.candidate → (y : ProgramFails p m d) → FailsFirst d y.threads k bt b → Failing k bt b ≡ Failing h at way
+      same_thread : (d : Candidate) → d ≡ g.candidate → (y : ProgramFails p m d) → FailsFirst d y.allowed.threads k bt b → Failing k bt b ≡ Failing h at way
       same_thread d one y first =
-          let mine : FailsFirst g.candidate (runs_of p g.candidate.threads) h at way = subst (λ (rs : List Run). FailsFirst g.candidate rs h at way) (runs_are p g.candidate.threads g.fails.threads g.fails.whole) g.first in
-          let its : FailsFirst d (runs_of p d.threads) k bt b = subst (λ (rs : List Run). FailsFirst d rs k bt b) (runs_are p d.threads y.threads y.whole) first in
+          let mine : FailsFirst g.candidate (runs_of p g.candidate.threads) h at way = subst (λ (rs : List Run). FailsFirst g.candidate rs h at way) (runs_are p g.candidate.threads g.fails.allowed.threads g.fails.allowed.whole) g.first in
+          let its : FailsFirst d (runs_of p d.threads) k bt b = subst (λ (rs : List Run). FailsFirst d rs k bt b) (runs_are p d.threads y.allowed.threads y.allowed.whole) first in
           let both = one_first g.candidate (runs_of p g.candidate.threads) h k at bt way b mine (subst (λ (e : Candidate). FailsFirst e (runs_of p e.threads) k bt b) one its) in
           ap (λ (i : ℕ). Failing i bt b) both.0 ∙ ap (λ (q : Place). Failing h q b) both.1 ∙ ap (λ (z : Bool). Failing h at z) both.2
   same_replay bound full text m p w h at way acc g _ (rejected c e s b n) =

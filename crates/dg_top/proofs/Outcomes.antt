@@ -31,8 +31,8 @@ unchanged {A} before now e = subst (λ o. Unchanged before o) (sym e) (same befo
 
 pub status_small : (a : Answer) → status_of a < 5
 status_small Safe = omega arith
-status_small (Unsafe p c h at) = omega arith
-status_small (Failing h at) = omega arith
+status_small (Unsafe w h at b) = omega arith
+status_small (Failing h at b) = omega arith
 status_small (Rejected p e) = omega arith
 status_small BadWords = omega arith
 status_small (Refused e) = omega arith
@@ -42,8 +42,8 @@ status_small (LongFile name) = omega arith
 
 pub status_known : (a : Answer) → IsStatus (status_of a)
 status_known Safe = refl
-status_known (Unsafe p c h at) = refl
-status_known (Failing h at) = refl
+status_known (Unsafe w h at b) = refl
+status_known (Failing h at b) = refl
 status_known (Rejected p e) = refl
 status_known BadWords = refl
 status_known (Refused e) = refl

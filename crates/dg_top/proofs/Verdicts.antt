@@ -22,5 +22,5 @@ pub told : (p : Checked) (o : Option FormVerdict) (v : FormVerdict) → IfSome o
 told p o v h e = subst (λ (o : Option FormVerdict). IfSome o (IsVerdictOf p)) e h
 
 -- the failing thread of the candidate's runs is that of the execution's
-pub first_of : (p : Checked) (m : MemoryModel) (c : Candidate) (x : ProgramFails p m c) (h : ℕ) (at : Place) (bound : Bool) → FailsFirst c (runs_of p c.threads) h at bound → FailsFirst c x.threads h at bound
-first_of p m c x h at bound first = subst (λ (rs : List Run). FailsFirst c rs h at bound) (sym (runs_are p c.threads x.threads x.whole)) first
+pub first_of : (p : Checked) (m : MemoryModel) (c : Candidate) (x : ProgramFails p m c) (h : ℕ) (at : Place) (bound : Bool) → FailsFirst c (runs_of p c.threads) h at bound → FailsFirst c x.allowed.threads h at bound
+first_of p m c x h at bound first = subst (λ (rs : List Run). FailsFirst c rs h at bound) (sym (runs_are p c.threads x.allowed.threads x.allowed.whole)) first

@@ -1,41 +1,24 @@
 -- Lists of words by their length.
-use Rattle.std.proofs.Common.{◌≡◌, ◌≢◌, ◌+◌, ◌-◌, ℕ, List, [], ◌∷◌, Option, Some, None, length, drop, take, arith, refl, ap, sym, ◌∙◌, true}
+use Rattle.std.proofs.Common.{◌≡◌, ◌+◌, ℕ, List, [], ◌∷◌, Option, Some, None, length, drop, take, arith, refl, ap, sym, ◌∙◌, true, false}
 use Rattle.std.specs.Prelude.{slice_get}
 use Rattle.std.proofs.Common.{drop-cons, add-one}
 use Rattle.std.proofs.Math.ListN.{drop_of_length-le}
 use Rattle.std.proofs.lemmas.Option.{get_or_from_slice_get, slice_get_within}
 use Rattle.std.proofs.lemmas.List.{drop-drop}
-use Rattle.std.proofs.lemmas.Bool.{cond-true}
+use Rattle.std.proofs.lemmas.Bool.{cond-false, cond-true}
 use Rattle.dg_top.specs.declared.settings.Job.{Job}
 use Rattle.dg_top.specs.declared.settings.Job.TheVariants.{Replay, Verify}
 use Rattle.dg_top.specs.declared.settings.Options.{Options}
 use Rattle.dg_top.specs.declared.settings.Settings.{Settings}
-use Rattle.dg_top.specs.Settings.{Word, are_files, file_count, files_of, given, job_with, options_of, settled}
-
--- no option stands behind one word, behind three, or behind more than four
-pub odd_options : (ws : List Word) → length ws ≢ 0 → length ws ≢ 2 → length ws ≢ 4 → options_of ws ≡ None
-odd_options [] none two four = absurd (none refl)
-odd_options (a ∷ []) none two four = refl
-odd_options (a ∷ b ∷ []) none two four = absurd (two refl)
-odd_options (a ∷ b ∷ c ∷ []) none two four = refl
-odd_options (a ∷ b ∷ c ∷ d ∷ []) none two four = absurd (four refl)
-odd_options (a ∷ b ∷ c ∷ d ∷ e ∷ ws) none two four = refl
+use Rattle.dg_top.specs.Settings.{Word, add_full, add_option, are_files, file_count, files_of, given, is_full, job_with, options_from, options_of, settled}
 
 -- what stands from a word on
 from_word : (ws : List Word) (n : ℕ) (a : Word) → slice_get ws n ≡ Some a → drop n ws ≡ a ∷ drop (n + 1) ws
 from_word ws n a e = rw (add-one n, drop-cons ws n [] (slice_get_within ws n a e), get_or_from_slice_get ws n a [] e) refl
 
-pub two_left : (ws : List Word) (n : ℕ) (a b : Word) → length ws - n ≡ 2 → slice_get ws n ≡ Some a → slice_get ws (n + 1) ≡ Some b → drop n ws ≡ a ∷ b ∷ []
-two_left ws n a b e f g =
-    from_word ws n a f ∙ ap (λ l. a ∷ l) (from_word ws (n + 1) b g) ∙ ap (λ l. a ∷ b ∷ l) (drop_of_length-le ws {i = n + 1 + 1} (omega arith))
-
-pub four_left : (ws : List Word) (n : ℕ) (a b c d : Word) → length ws - n ≡ 4 → slice_get ws n ≡ Some a → slice_get ws (n + 1) ≡ Some b
-    → slice_get ws (n + 2) ≡ Some c → slice_get ws (n + 3) ≡ Some d → drop n ws ≡ a ∷ b ∷ c ∷ d ∷ []
-four_left ws n a b c d e f g h k =
-    let two : n + 1 + 1 ≡ n + 2 = omega arith in
-    let three : n + 2 + 1 ≡ n + 3 = omega arith in
-    from_word ws n a f ∙ ap (λ l. a ∷ l) (from_word ws (n + 1) b g) ∙ ap (λ (i : ℕ). a ∷ b ∷ drop i ws) two ∙ ap (λ l. a ∷ b ∷ l) (from_word ws (n + 2) c h)
-    ∙ ap (λ (i : ℕ). a ∷ b ∷ c ∷ drop i ws) three ∙ ap (λ l. a ∷ b ∷ c ∷ l) (from_word ws (n + 3) d k) ∙ ap (λ l. a ∷ b ∷ c ∷ d ∷ l) (drop_of_length-le ws {i = n + 3 + 1} (omega arith))
+-- behind the last word nothing stands
+pub at_the_end : (ws : List Word) (n : ℕ) → n ≡ length ws → drop n ws ≡ []
+at_the_end ws n e = drop_of_length-le ws {i = n} (omega arith)
 
 pub given_none : {A B : Type 0} (o : Option A) (f : A → Option B) → o ≡ None → given o f ≡ None
 given_none None f e = refl
@@ -44,6 +27,33 @@ given_none (Some x) f e = absurd cc
 pub given_some : {A B : Type 0} (o : Option A) (f : A → Option B) (x : A) → o ≡ Some x → given o f ≡ f x
 given_some None f x e = absurd cc
 given_some (Some y) f x e = ap f (cc)
+
+-- ---- options
+
+-- no word is left
+pub none_left : (o : Options) (ws : List Word) (n : ℕ) → n ≡ length ws → options_from None o (drop n ws) ≡ Some o
+none_left o ws n e = ap (options_from None o) (at_the_end ws n e)
+
+-- the next word is `--full`
+pub full_next : (o : Options) (ws : List Word) (n : ℕ) (w : Word) → slice_get ws n ≡ Some w → is_full w ≡ true
+    → options_from None o (drop n ws) ≡ given (add_full o.full o) (λ p. options_from None p (drop (n + 1) ws))
+full_next o ws n w e f = ap (options_from None o) (from_word ws n w e) ∙ cond-true (is_full w) _ _ f
+
+-- the next word is another
+other_next : (o : Options) (ws : List Word) (n : ℕ) (w : Word) → slice_get ws n ≡ Some w → is_full w ≡ false
+    → options_from None o (drop n ws) ≡ options_from (Some w) o (drop (n + 1) ws)
+other_next o ws n w e f = ap (options_from None o) (from_word ws n w e) ∙ cond-false (is_full w) _ _ f
+
+-- and is the last
+pub name_last : (o : Options) (ws : List Word) (n : ℕ) (w : Word) → slice_get ws n ≡ Some w → is_full w ≡ false → n + 1 ≡ length ws → options_from None o (drop n ws) ≡ None
+name_last o ws n w e f l = other_next o ws n w e f ∙ ap (options_from (Some w) o) (at_the_end ws (n + 1) l)
+
+-- and its value stands behind it
+pub option_next : (o : Options) (ws : List Word) (n : ℕ) (w v : Word) → slice_get ws n ≡ Some w → is_full w ≡ false → slice_get ws (n + 1) ≡ Some v
+    → options_from None o (drop n ws) ≡ given (add_option o w v) (λ p. options_from None p (drop (n + 2) ws))
+option_next o ws n w v e f g =
+    let two : n + 1 + 1 ≡ n + 2 = omega arith in
+    other_next o ws n w e f ∙ ap (options_from (Some w) o) (from_word ws (n + 1) v g) ∙ ap (λ (i : ℕ). given (add_option o w v) (λ p. options_from None p (drop i ws))) two
 
 -- what a job on files is
 pub job_is : (j : Job) (ws : List Word) (n : ℕ) (o : Option Options) → are_files j (drop 2 ws) ≡ true → n ≡ file_count j → o ≡ options_of (drop (2 + n) ws)

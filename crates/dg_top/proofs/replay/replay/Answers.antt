@@ -25,4 +25,4 @@ returns-in-Err c =
     }) c.refuse.ensures
 
 pub replay_witness-requires-clause-names : goal.replay_witness-requires-clause-names
-replay_witness-requires-clause-names c = c.names_are_plain.ensures c.args.settings.now.bound c.args.text.now c.in-Ok.checked c.in-Ok.ensures.accepted
+replay_witness-requires-clause-names c = c.names_are_plain.ensures c.args.settings.now.bound c.args.settings.now.full c.args.text.now c.in-Ok.checked c.in-Ok.ensures.accepted

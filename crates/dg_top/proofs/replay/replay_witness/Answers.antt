@@ -1,6 +1,6 @@
 use Rattle.std.proofs.Common.{ℕ, IfOk, subst}
 use Rattle.witness_text.specs.Faults.{IsFaultOf}
-use Rattle.witness_text.specs.Spelling.{cell_names}
+use Rattle.c_check.specs.PlainNames.{cell_names}
 use Rattle.witness_text.specs.declared.reading.WitnessFault.{WitnessFault}
 use Rattle.dg_top.specs.Answers.{BadWitness, IsReplay, bad_witness}
 use Rattle.dg_top.specs.Replies.{IsOneOf, Spells}

@@ -2,7 +2,7 @@ use Rattle.std.proofs.Common.{Some, false, ap, ◌∙◌}
 use Rattle.axiom_model.specs.declared.MemoryModel.TheVariants.{Sc}
 use Rattle.form_verdict.specs.declared.verdict.FormVerdict.TheVariants as verdict
 use Rattle.dg_top.specs.Answers.{IsVerdict, NotYet, Safe, Unsafe, not_yet, safe, unsafe}
-use Rattle.dg_top.specs.Replies.{IsOneOf, Spells}
+use Rattle.dg_top.specs.Replies.{IsOneOf, IsUnsafe, Spells}
 use Rattle.dg_top.proofs.Texts.{if_ok}
 use Rattle.dg_top.proofs.Verdicts.{decided, told}
 use Rattle.dg_top.proofs.verify.decide_sequential.Goals as goal
@@ -21,10 +21,10 @@ returns-in-Some-Unsafe c =
     let p = c.args.checked.now in
     let f = c.in-Some-Unsafe.failure in
     let shown = told p c.in_ok-decide_form.field-0 (verdict.Unsafe f) c.in_ok-decide_form.ensures.verdict (c.in-Some-Unsafe.is ∙ ap Some c.in-Some-Unsafe.field-0-is) in
-    if_ok c.unsafe_at.result (Spells (Unsafe p f.candidate f.handle f.place false)) (IsOneOf (IsVerdict Sc p)) (λ r spelled. record {
-      answer = Unsafe p f.candidate f.handle f.place false;
-      allowed = unsafe f.candidate f.handle f.place false (decided p c.in_ok-decide_form.field-0 _ c.in_ok-decide_form.ensures.none c.in-Some-Unsafe.is) shown.fails shown.first;
-      spelled = spelled;
+    if_ok c.unsafe_at.result (IsUnsafe p f.candidate f.handle f.place false) (IsOneOf (IsVerdict Sc p)) (λ r told. record {
+      answer = Unsafe told.witness f.handle f.place false;
+      allowed = unsafe f.candidate told.witness f.handle f.place false (decided p c.in_ok-decide_form.field-0 _ c.in_ok-decide_form.ensures.none c.in-Some-Unsafe.is) told.spells shown.fails shown.first;
+      spelled = told.spelled;
     }) c.unsafe_at.ensures
 
 pub returns-in-None : goal.returns-in-None

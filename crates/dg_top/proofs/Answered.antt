@@ -1,0 +1,36 @@
+-- Which answers of a job there are, and what follows for the status.
+use Rattle.std.proofs.Common.{◌≡◌, ◌≢◌, ℕ, Bool, List, [], ◌∷◌, Some, None, Result, Ok, Err, IfOk, sym, subst, ◌∙◌}
+use Rattle.dg_base.specs.declared.Place.{Place}
+use Rattle.dg_base.specs.declared.refusal.Refusal.{Refusal}
+use Rattle.axiom_model.specs.declared.MemoryModel.{MemoryModel}
+use Rattle.c_check.specs.declared.checked.Checked.{Checked}
+use Rattle.dg_top.specs.declared.reply.Reply.{Reply}
+use Rattle.dg_top.specs.declared.settings.Settings.{Settings}
+use Rattle.dg_top.specs.Answers.{Answer, BadWitness, BadWords, Failing, IsAnswer, IsReplay, IsVerdict, LongFile, NotYet, Refused, Rejected, Safe, Unsafe, bad_witness, failing, not_yet, refused, rejected, replayed, safe, status_of, unsafe, verified}
+use Rattle.dg_top.specs.Replies.{IsOneOf, Spells}
+
+-- a verdict, or what is said of a witness, is never told with status 3
+verdict_status : (m : MemoryModel) (p : Checked) (a : Answer) → IsVerdict m p a → status_of a ≢ 3
+verdict_status m p _ (not_yet d) = λ e. cc
+verdict_status m p _ (safe d n) = λ e. cc
+verdict_status m p _ (unsafe c w h at b d s x f) = λ e. cc
+
+replay_status : (m : MemoryModel) (p : Checked) (w : List ℕ) (a : Answer) → IsReplay m p w a → status_of a ≢ 3
+replay_status m p w _ (bad_witness line r) = λ e. cc
+replay_status m p w _ (failing c h at b s x f) = λ e. cc
+replay_status m p w _ (rejected c e s b n) = λ e. cc
+
+answer_status : (s : Settings) (texts : List (List ℕ)) (a : Answer) → IsAnswer s texts a → status_of a ≢ 3
+answer_status s _ _ (refused text others e r) = λ e. cc
+answer_status s _ a (verified text p b j acc v) = verdict_status s.model p b v
+answer_status s _ a (replayed text witness p b j acc v) = replay_status s.model p witness b v
+
+-- a reply with an answer of a job's texts
+pub one_status : (s : Settings) (texts : List (List ℕ)) (r : Reply) → IsOneOf (IsAnswer s texts) r → r.status ≢ 3
+one_status s texts r o = λ e. answer_status s texts o.answer o.allowed (sym o.spelled.status ∙ e)
+
+pub long_status : (name : List ℕ) (r : Reply) → Spells (LongFile name) r → r.status ≢ 3
+long_status name r spelled = λ e. let four : 4 ≡ r.status = sym spelled.status in let no : 4 ≡ 3 = four ∙ e in cc
+
+pub bad_status : (r : Reply) → Spells BadWords r → r.status ≡ 3
+bad_status r spelled = spelled.status

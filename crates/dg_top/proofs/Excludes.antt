@@ -1,0 +1,127 @@
+-- Safe and Unsafe exclude each other, and the witness of an unsafe program is a failing execution of it.
+use Rattle.std.proofs.Common.{◌≡◌, ◌≢◌, ℕ, Bool, List, [], ◌∷◌, Some, None, map, refl, sym, ap, subst, ◌∙◌}
+use Rattle.dg_base.specs.declared.Place.{Place}
+use Rattle.dg_base.specs.declared.outside.FileEntry.{FileEntry}
+use Rattle.dg_base.specs.Outside.{contents}
+use Rattle.dg_base.proofs.Lists.{one_answer}
+use Rattle.axiom_model.specs.declared.Candidate.{Candidate}
+use Rattle.axiom_model.specs.declared.MemoryModel.{MemoryModel}
+use Rattle.axiom_model.specs.Failing.{FailsFirst}
+use Rattle.c_check.specs.declared.checked.Checked.{Checked}
+use Rattle.c_check.specs.PlainNames.{cell_names}
+use Rattle.run_model.specs.Threads.{ProgramFails}
+use Rattle.witness_text.specs.Spelling.{Spells}
+use Rattle.c_program.specs.Accepting.{IsAccepted, OneChecked}
+use Rattle.dg_top.specs.declared.settings.Settings.{Settings}
+use Rattle.dg_top.specs.Answers.{Allowed, Answer, BadWitness, BadWords, Failing, IsAnswer, IsAnswerOf, IsReplay, IsVerdict, LongFile, NotYet, Refused, Rejected, Safe, Unsafe, answer, bad_witness, bad_words, failing, job_done, long_file, not_yet, refused, rejected, replayed, safe, unsafe, verified}
+use Rattle.dg_top.specs.Laws.{SafeExcludesUnsafe, UnsafeIsReplayed, replaying}
+use Rattle.dg_top.specs.Settings.{files_of, settings_of}
+
+-- ---- an answer that the words' job gives of its texts
+
+record Asked (words : List (List ℕ)) (files : List FileEntry) (a : Answer) : Type 0 where
+  settings : Settings
+  are : settings_of words ≡ Some settings
+  answered : IsAnswer settings (map (contents files) (files_of settings words)) a
+
+of_job : (words : List (List ℕ)) (files : List FileEntry) (s : Settings) (a : Answer) → ((name : List ℕ) → a ≢ LongFile name) → settings_of words ≡ Some s → IsAnswerOf s (files_of s words) files a
+    → Asked words files a
+of_job words files s _ short e (long_file name f) = absurd (short name refl)
+of_job words files s a short e (answer b none v) = record { settings = s; are = e; answered = v }
+
+asked : (words : List (List ℕ)) (files : List FileEntry) (a : Answer) → a ≢ BadWords → ((name : List ℕ) → a ≢ LongFile name) → Allowed words files a → Asked words files a
+asked words files _ known short (bad_words e) = absurd (known refl)
+asked words files a known short (job_done s b e v) = of_job words files s b short e v
+
+-- ---- a text that is answered with Safe
+
+record IsSafe (s : Settings) (texts : List (List ℕ)) : Type 0 where
+  text : List ℕ
+  program : Checked
+  texts_are : texts ≡ text ∷ []
+  accepted : IsAccepted s.bound s.full text program
+  none : (c : Candidate) → ProgramFails program s.model c → ⊥
+
+none_fails : (m : MemoryModel) (p : Checked) (a : Answer) → a ≡ Safe → IsVerdict m p a → (c : Candidate) → ProgramFails p m c → ⊥
+none_fails m p _ e (not_yet d) = absurd (let no : NotYet ≡ Safe = e in cc)
+none_fails m p _ e (safe d n) = n
+none_fails m p _ e (unsafe c w h at b d s x f) = absurd (let no : Unsafe w h at b ≡ Safe = e in cc)
+
+no_safe_replay : (m : MemoryModel) (p : Checked) (w : List ℕ) (a : Answer) → a ≡ Safe → IsReplay m p w a → ⊥
+no_safe_replay m p w _ e (bad_witness line r) = let no : BadWitness line ≡ Safe = e in cc
+no_safe_replay m p w _ e (failing c h at b s x f) = let no : Failing h at b ≡ Safe = e in cc
+no_safe_replay m p w _ e (rejected c r s b n) = let no : Rejected p r ≡ Safe = e in cc
+
+is_safe : (s : Settings) (texts : List (List ℕ)) (a : Answer) → a ≡ Safe → IsAnswer s texts a → IsSafe s texts
+is_safe s _ _ e (refused text others r d) = absurd (let no : Refused r ≡ Safe = e in cc)
+is_safe s _ a e (verified text p b j acc v) = record { text = text; program = p; texts_are = refl; accepted = acc; none = none_fails s.model p b e v }
+is_safe s _ a e (replayed text witness p b j acc v) = absurd (no_safe_replay s.model p witness b e v)
+
+-- ---- a text that is answered with Unsafe
+
+record Shows (m : MemoryModel) (p : Checked) (w : List ℕ) (h : ℕ) (at : Place) (way : Bool) : Type 0 where
+  candidate : Candidate
+  spells : Spells p.functions (cell_names p.cells) candidate w
+  fails : ProgramFails p m candidate
+  first : FailsFirst candidate fails.allowed.threads h at way
+
+record IsUnsafe (s : Settings) (texts : List (List ℕ)) (w : List ℕ) (h : ℕ) (at : Place) (way : Bool) : Type 0 where
+  text : List ℕ
+  program : Checked
+  texts_are : texts ≡ text ∷ []
+  accepted : IsAccepted s.bound s.full text program
+  shows : Shows s.model program w h at way
+
+module _ (w : List ℕ) (h : ℕ) (at : Place) (way : Bool) where
+  shows_it : (m : MemoryModel) (p : Checked) (a : Answer) → a ≡ Unsafe w h at way → IsVerdict m p a → Shows m p w h at way
+  shows_it m p _ e (not_yet d) = absurd (let no : NotYet ≡ Unsafe w h at way = e in cc)
+  shows_it m p _ e (safe d n) = absurd (let no : Safe ≡ Unsafe w h at way = e in cc)
+  shows_it m p _ e (unsafe c v k bt b d s x f) =
+      let told : v ≡ w = cc in
+      let handle : k ≡ h = cc in
+      let place : bt ≡ at = cc in
+      let flag : b ≡ way = cc in
+      record {
+        candidate = c;
+        spells = subst (λ t. Spells p.functions (cell_names p.cells) c t) told s;
+        fails = x;
+        first = subst (λ (z : Bool). FailsFirst c x.allowed.threads h at z) flag (subst (λ (q : Place). FailsFirst c x.allowed.threads h q b) place (subst (λ (i : ℕ). FailsFirst c x.allowed.threads i bt b) handle f));
+      }
+
+  no_unsafe_replay : (m : MemoryModel) (p : Checked) (v : List ℕ) (a : Answer) → a ≡ Unsafe w h at way → IsReplay m p v a → ⊥
+  no_unsafe_replay m p v _ e (bad_witness line r) = let no : BadWitness line ≡ Unsafe w h at way = e in cc
+  no_unsafe_replay m p v _ e (failing c k bt b s x f) = let no : Failing k bt b ≡ Unsafe w h at way = e in cc
+  no_unsafe_replay m p v _ e (rejected c r s b n) = let no : Rejected p r ≡ Unsafe w h at way = e in cc
+
+  is_unsafe : (s : Settings) (texts : List (List ℕ)) (a : Answer) → a ≡ Unsafe w h at way → IsAnswer s texts a → IsUnsafe s texts w h at way
+  is_unsafe s _ _ e (refused text others r d) = absurd (let no : Refused r ≡ Unsafe w h at way = e in cc)
+  is_unsafe s _ a e (verified text p b j acc v) = record { text = text; program = p; texts_are = refl; accepted = acc; shows = shows_it s.model p b e v }
+  is_unsafe s _ a e (replayed text v p b j acc x) = absurd (no_unsafe_replay s.model p v b e x)
+
+-- ---- the laws
+
+module _ (one_checked : OneChecked) where
+  clash : (s : Settings) (texts : List (List ℕ)) (w : List ℕ) (h : ℕ) (at : Place) (way : Bool) → IsSafe s texts → IsUnsafe s texts w h at way → ⊥
+  clash s texts w h at way x y =
+      let lists : x.text ∷ [] ≡ y.text ∷ [] = sym x.texts_are ∙ y.texts_are in
+      let text : y.text ≡ x.text = cc in
+      let program : y.program ≡ x.program = one_checked s.bound s.full x.text y.program x.program (subst (λ (t : List ℕ). IsAccepted s.bound s.full t y.program) text y.accepted) x.accepted in
+      x.none y.shows.candidate (subst (λ (p : Checked). ProgramFails p s.model y.shows.candidate) program y.shows.fails)
+
+  pub safe_excludes : SafeExcludesUnsafe
+  safe_excludes words files w h at way x y =
+      let one = asked words files Safe (λ e. cc) (λ name e. cc) x in
+      let other = asked words files (Unsafe w h at way) (λ e. cc) (λ name e. cc) y in
+      let same : other.settings ≡ one.settings = one_answer (settings_of words) other.settings one.settings other.are one.are in
+      let s = one.settings in
+      let texts = map (contents files) (files_of s words) in
+      let second : IsAnswer s texts (Unsafe w h at way) = subst (λ (s : Settings). IsAnswer s (map (contents files) (files_of s words)) (Unsafe w h at way)) same other.answered in
+      clash s texts w h at way (is_safe s texts Safe refl one.answered) (is_unsafe w h at way s texts (Unsafe w h at way) refl second)
+
+pub is_replayed : UnsafeIsReplayed
+is_replayed s text w h at way x =
+    let y = is_unsafe w h at way s (text ∷ []) (Unsafe w h at way) refl x in
+    let lists : text ∷ [] ≡ y.text ∷ [] = y.texts_are in
+    let same : y.text ≡ text = cc in
+    replayed text w y.program (Failing h at way) refl (subst (λ (t : List ℕ). IsAccepted s.bound s.full t y.program) same y.accepted)
+    (failing y.shows.candidate h at way y.shows.spells y.shows.fails y.shows.first)
