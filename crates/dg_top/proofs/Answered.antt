@@ -1,13 +1,16 @@
 -- Which answers of a job there are, and what follows for the status.
-use Rattle.std.proofs.Common.{◌≡◌, ◌≢◌, ℕ, Bool, List, [], ◌∷◌, Some, None, Result, Ok, Err, IfOk, sym, subst, ◌∙◌}
+use Rattle.std.proofs.Common.{◌≡◌, ◌≢◌, ◌↔◌, ℕ, Bool, List, [], ◌∷◌, Some, None, Result, Ok, Err, IfOk, sym, subst, ◌∙◌}
 use Rattle.dg_base.specs.declared.Place.{Place}
+use Rattle.dg_base.specs.declared.outside.Trouble.{Trouble}
 use Rattle.dg_base.specs.declared.refusal.Refusal.{Refusal}
+use Rattle.dg_base.proofs.Lists.{not_none}
 use Rattle.axiom_model.specs.declared.MemoryModel.{MemoryModel}
 use Rattle.c_check.specs.declared.checked.Checked.{Checked}
 use Rattle.dg_top.specs.declared.reply.Reply.{Reply}
 use Rattle.dg_top.specs.declared.settings.Settings.{Settings}
 use Rattle.dg_top.specs.Answers.{Answer, BadWitness, BadWords, Failing, IsAnswer, IsReplay, IsVerdict, LongFile, NotYet, Refused, Rejected, Safe, Unsafe, bad_witness, failing, not_yet, refused, rejected, replayed, safe, status_of, unsafe, verified}
 use Rattle.dg_top.specs.Replies.{IsOneOf, Spells}
+use Rattle.dg_top.specs.Settings.{settings_of}
 
 -- a verdict, or what is said of a witness, is never told with status 3
 verdict_status : (m : MemoryModel) (p : Checked) (a : Answer) → IsVerdict m p a → status_of a ≢ 3
@@ -34,3 +37,14 @@ long_status name r spelled = λ e. let four : 4 ≡ r.status = sym spelled.statu
 
 pub bad_status : (r : Reply) → Spells BadWords r → r.status ≡ 3
 bad_status r spelled = spelled.status
+
+-- ---- the words
+
+-- words with settings are not none
+pub asked : (ws : List (List ℕ)) (s : Settings) → settings_of ws ≡ Some s → settings_of ws ≢ None
+asked ws s e = λ n. not_none (settings_of ws) s n e
+
+-- where the words have settings no reply has status 3
+pub no_status : (ws : List (List ℕ)) (s : Settings) (r : Result Reply Trouble) → settings_of ws ≡ Some s → IfOk r (λ (r : Reply). r.status ≢ 3) → IfOk r (λ (r : Reply). (r.status ≡ 3) ↔ (settings_of ws ≡ None))
+no_status ws s (Ok r) e other = (λ three. absurd (other three), λ n. absurd (not_none (settings_of ws) s n e))
+no_status ws s (Err t) e other = tt

@@ -4,6 +4,7 @@ use Rattle.dg_base.specs.Outside.{Told}
 use Rattle.dg_base.specs.declared.outside.Trouble.TheVariants.{Failed}
 use Rattle.dg_top.specs.Replies.{IsFetched}
 use Rattle.dg_top.proofs.Files.{first_too_long, no_ok, same_err, second_fault, second_too_long, two_files}
+use Rattle.dg_top.proofs.Answered.{long_status, one_status}
 use Rattle.dg_top.proofs.command.replay_files.Goals as goal
 
 pub returns-in_default-clause-replies : goal.returns-in_default-clause-replies
@@ -36,3 +37,13 @@ pub returns-clause-fault : goal.returns-clause-fault
 returns-clause-fault g c =
     λ e. second_fault c.args.program.now c.args.witness.now (g.D.Desk.faults c.args.desk.now) (g.D.Desk.faults c.fetched.new.desk) (g.D.Desk.faults c.fetched-2.new.desk)
     (c.in_ok-text.ensures.no_fault (no_ok c.in_ok-text.field-0 Failed)) (c.in-Err.ensures.fault (same_err _ Failed e))
+
+pub returns-in_default-clause-status : goal.returns-in_default-clause-status
+returns-in_default-clause-status g c = long_status c.args.program.now c.in_ok-long_file.field-0 c.in_ok-long_file.ensures
+
+pub returns-in-Ok-Some-clause-status : goal.returns-in-Ok-Some-clause-status
+returns-in-Ok-Some-clause-status g c =
+    one_status c.args.settings.now (c.as_slice.result.now ∷ c.as_slice-in-Ok-Some.result.now ∷ []) c.in_ok-replay-in-Ok-Some.field-0 c.in_ok-replay-in-Ok-Some.ensures
+
+pub returns-in-Ok-None-clause-status : goal.returns-in-Ok-None-clause-status
+returns-in-Ok-None-clause-status g c = long_status c.args.witness.now c.in_ok-long_file-in-Ok-None.field-0 c.in_ok-long_file-in-Ok-None.ensures
