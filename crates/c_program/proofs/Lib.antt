@@ -8,3 +8,4 @@ pub mod Spelled
 pub mod Differing
 pub mod PlainNames
 pub mod OneRefusal
+mod Answered

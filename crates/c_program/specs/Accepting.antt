@@ -8,7 +8,7 @@ use Rattle.c_token.specs.Tokens.{answer}
 use Rattle.c_tree.specs.declared.program.Program.{Program}
 use Rattle.c_stmt.specs.Programs.{HasCause, ReadsProgram}
 use Rattle.c_check.specs.declared.checked.Checked.{Checked}
-use Rattle.c_check.specs.WellFormed.{IsChecked, IsFirstRefusal}
+use Rattle.c_check.specs.WellFormed.{IsBound, IsChecked, IsFirstRefusal}
 use Rattle.c_check.specs.PlainNames.{HasPlainNames, cell_names}
 
 -- the text's tokens are this program
@@ -38,6 +38,10 @@ OneProgramOfText = (text : List ℕ) (x y : Program) → IsRead text x → IsRea
 -- no text is both accepted and refused for a bound
 abbrev pub NotBoth : Type 0
 NotBoth = (bound : ℕ) (full : Bool) (text : List ℕ) (p : Checked) (e : Refusal) → IsAccepted bound full text p → IsRefused bound text e → ⊥
+
+-- and none is neither
+abbrev pub NotNeither : Type 0
+NotNeither = (bound : ℕ) (full : Bool) (text : List ℕ) → IsBound bound → ((p : Checked) → IsAccepted bound full text p → ⊥) → ((e : Refusal) → IsRefused bound text e → ⊥) → ⊥
 
 -- what is accepted has plain names
 abbrev pub NamesArePlain : Type 0

@@ -1,5 +1,5 @@
 // Laws of texts.
-ghost use Rattle.c_program.specs.Accepting.{NamesArePlain, NotBoth, OneChecked, OneProgramOfText, OneRefusal};
+ghost use Rattle.c_program.specs.Accepting.{NamesArePlain, NotBoth, NotNeither, OneChecked, OneProgramOfText, OneRefusal};
 
 use c_stmt::one_program;
 
@@ -16,6 +16,11 @@ pub fn accepted_or_refused()
 {
     one_program()
 }
+
+/// No text is neither accepted nor refused.
+pub fn not_neither()
+    ensures { NotNeither }
+{}
 
 /// The names of what is accepted are plain.
 pub fn names_are_plain()

@@ -5,7 +5,7 @@
 //! the text's refusal, since each layer reads what the one below it gave for the text.
 //!
 //! The layer above may use [`read_program`] with its contract, those definitions, and the laws: a text is one program at most,
-//! has one checked program and one refusal at most, and never both; and the names of what is accepted are plain, so that a
+//! has one checked program and one refusal at most, never both, and not neither; and the names of what is accepted are plain, so that a
 //! witness of the program can be read back from its text.
 #![tactic(auto)]
 
@@ -13,6 +13,7 @@ mod laws;
 mod reading;
 
 pub use laws::{
-    accepted_or_refused, names_are_plain, one_checked, one_program_of_text, one_refusal,
+    accepted_or_refused, names_are_plain, not_neither, one_checked, one_program_of_text,
+    one_refusal,
 };
 pub use reading::read_program;
