@@ -52,19 +52,19 @@ syntax_told tokens wrong none =
 module _ (items : List Item) (none : (place : Place) → IsFirstRecursive items place → ⊥) where
   below : (n i : ℕ) → i < n → Leads items i i → ⊥
   below zero i less leads = absurd (omega arith)
-  below (suc n) i less leads = from_call (calls_first leads)
+  below (suc n) i less leads = from_call (calls_first leads) (λ j earlier. below n j (omega arith))
     where
       calls_first : {k j : ℕ} → Leads items k j → (m : ℕ) × Calls items k m
       calls_first (at_once {j = j} c) = (j, c)
       calls_first (over {m = m} c l) = (m, c)
 
-      from_call : (m : ℕ) × Calls items i m → ⊥
-      from_call c = none c.1.caller.place (record {
+      from_call : (m : ℕ) × Calls items i m → ((j : ℕ) → j < i → Leads items j j → ⊥) → ⊥
+      from_call c first = none c.1.caller.place (record {
         number = i;
         function = c.1.caller;
         stands = c.1.stands;
         recursive = leads;
-        first = λ j earlier. below n j (omega arith);
+        first = first;
         is = refl;
       })
 

@@ -113,7 +113,7 @@ call_runs cx name c s p args st e none known =
     runs_effect cx s x.0 st _ x.1
     (ap (λ (k : Meaning). k.run st) m
     ∙ ap (λ (o : Option ℕ). call cx p name ms o st) none
-    ∙ ap (λ (o : Option Builtin). call_builtin cx.setting p o ms st) known)
+    ∙ ap (λ (o : Option Builtin). call_builtin cx.setting p name o ms st) known)
 
 -- the test of an assertion
 compares : (p : Place) (l e : Meaning) (s : State) (o : Outcome ℕ) (v : ℕ) → l.run s ≡ o → ((t : State) → e.run t ≡ Goes v t) → binary p binary.Equal l e s ≡ go_on o (λ u t. Goes (truth_of (nat_eq u v)) t)
