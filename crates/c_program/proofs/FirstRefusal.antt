@@ -3,6 +3,7 @@
 use Rattle.std.proofs.Common.{◌≡◌, ◌≢◌, ◌⊎◌, inl, inr, ℕ, ◌<◌, ◌≤◌, List, Option, Some, None, refl, sym, ap, ◌∙◌, arith}
 use Rattle.std.specs.Prelude.{slice_get}
 use Rattle.std.proofs.lemmas.Bool.{cases_order}
+use Rattle.dg_base.proofs.Lists.{not_none, one_answer}
 use Rattle.dg_base.specs.declared.Place.{Place}
 use Rattle.dg_base.specs.declared.refusal.LimitKind.{LimitKind}
 use Rattle.dg_base.specs.declared.refusal.Refusal.{Refusal}
@@ -18,9 +19,6 @@ use Rattle.c_check.specs.Recursion.{IsFirstRecursive}
 use Rattle.c_check.specs.Limits.{Limited, exceeds}
 use Rattle.c_check.specs.WellFormed.{MatchesSections, IsNotRecursive, KeepsLimits, Exceeds, IsFirstRefusal, IsWellFormed}
 
-none_some : {A : Type 0} (o : Option A) (x : A) → o ≡ None → o ≡ Some x → ⊥
-none_some o x e f = cc
-
 -- the rule that a refusal is for
 abbrev pub Holds : ℕ → Program → Refusal → Type 0
 Holds k program refusal.NoMain = HasMain program
@@ -35,12 +33,12 @@ Holds k program _ = Unit {0}
 -- it is broken where the refusal is the first
 pub is_broken : (k : ℕ) (program : Program) (e : Refusal) → IsFirstRefusal k program e → e ≢ refusal.OutOfMemory → Holds k program e → ⊥
 is_broken k program refusal.NoMain h n w = h w
-is_broken k program (refusal.Duplicate p) h n w = none_some _ p w h.1
-is_broken k program (refusal.Unknown p) h n w = none_some _ p w h.2
-is_broken k program (refusal.BadType p) h n w = none_some _ p w h.1
-is_broken k program (refusal.UnmatchedAtomic p) h n w = none_some _ p w h.2
+is_broken k program (refusal.Duplicate p) h n w = not_none _ p w h.1
+is_broken k program (refusal.Unknown p) h n w = not_none _ p w h.2
+is_broken k program (refusal.BadType p) h n w = not_none _ p w h.1
+is_broken k program (refusal.UnmatchedAtomic p) h n w = not_none _ p w h.2
 is_broken k program (refusal.Recursion p) h n w = w h.3.number h.3.recursive
-is_broken k program (refusal.Limit c m) h n w = none_some _ h.4.limited w h.4.first
+is_broken k program (refusal.Limit c m) h n w = not_none _ h.4.limited w h.4.first
 is_broken k program refusal.OutOfMemory h n w = n refl
 is_broken k program (refusal.BadByte p) h n w = h
 is_broken k program (refusal.Unsupported p text) h n w = h
@@ -69,12 +67,9 @@ one_recursive items p q x y = by (cases_order x.number y.number)
     by (inr (inl l)) = absurd (y.first x.number l x.recursive)
     by (inr (inr l)) = absurd (x.first y.number l y.recursive)
 
-some_same : {A : Type 0} (o : Option A) (x y : A) → o ≡ Some x → o ≡ Some y → x ≡ y
-some_same o x y e f = cc
-
 one_limit : (k : ℕ) (program : Program) (c d : LimitKind) (m n : ℕ) → Exceeds k program c m → Exceeds k program d n → refusal.Limit c m ≡ refusal.Limit d n
 one_limit k program c d m n x y =
-    let same : x.limited ≡ y.limited = some_same (exceeds k program) x.limited y.limited x.first y.first in
+    let same : x.limited ≡ y.limited = one_answer (exceeds k program) x.limited y.limited x.first y.first in
     let kinds : c ≡ d = sym x.same_kind ∙ (ap (λ (l : Limited). l.kind) same ∙ y.same_kind) in
     let counts : m ≡ n = x.told ∙ (ap (λ (l : Limited). capped l.count) same ∙ sym y.told) in
     cc
@@ -156,10 +151,10 @@ none_earlier k program e f h n g m l = is_broken k program f g m (rule_before k 
 -- two refusals for one rule are one
 same_rule : (k : ℕ) (program : Program) (e f : Refusal) → rank e ≡ rank f → IsFirstRefusal k program e → IsFirstRefusal k program f → e ≢ refusal.OutOfMemory → e ≡ f
 same_rule k program refusal.NoMain refusal.NoMain s h g n = refl
-same_rule k program (refusal.Duplicate p) (refusal.Duplicate q) s h g n = ap refusal.Duplicate (some_same _ p q h.1 g.1)
-same_rule k program (refusal.Unknown p) (refusal.Unknown q) s h g n = ap refusal.Unknown (some_same _ p q h.2 g.2)
-same_rule k program (refusal.BadType p) (refusal.BadType q) s h g n = ap refusal.BadType (some_same _ p q h.1 g.1)
-same_rule k program (refusal.UnmatchedAtomic p) (refusal.UnmatchedAtomic q) s h g n = ap refusal.UnmatchedAtomic (some_same _ p q h.2 g.2)
+same_rule k program (refusal.Duplicate p) (refusal.Duplicate q) s h g n = ap refusal.Duplicate (one_answer _ p q h.1 g.1)
+same_rule k program (refusal.Unknown p) (refusal.Unknown q) s h g n = ap refusal.Unknown (one_answer _ p q h.2 g.2)
+same_rule k program (refusal.BadType p) (refusal.BadType q) s h g n = ap refusal.BadType (one_answer _ p q h.1 g.1)
+same_rule k program (refusal.UnmatchedAtomic p) (refusal.UnmatchedAtomic q) s h g n = ap refusal.UnmatchedAtomic (one_answer _ p q h.2 g.2)
 same_rule k program (refusal.Recursion p) (refusal.Recursion q) s h g n = ap refusal.Recursion (one_recursive program.items p q h.3 g.3)
 same_rule k program (refusal.Limit c m) (refusal.Limit d l) s h g n = one_limit k program c d m l h.4 g.4
 same_rule k program refusal.OutOfMemory f s h g n = absurd (n refl)

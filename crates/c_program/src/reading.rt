@@ -22,12 +22,7 @@ fn read(alloc: Global, text: &[u8]) -> Result<Program, Refusal>
 }
 
 /// The checked program that the text is, for a loop bound, with spent bounds told or not; or its first refusal.
-pub fn read_program(
-    alloc: Global,
-    text: &[u8],
-    bound: u32,
-    full: bool,
-) -> Result<Checked, Refusal>
+pub fn read_program(alloc: Global, text: &[u8], bound: u32, full: bool) -> Result<Checked, Refusal>
     requires { (1 ≤ bound) × (bound ≤ 64) }
     ensures accepted { IfOk result (IsAccepted bound full text.now) }
     ensures refused { IfErr result (λ e. e ≢ OutOfMemory → IsRefused bound text.now e) }

@@ -1,9 +1,10 @@
 -- A failing execution is answered with its failing thread, and with nothing else.
-use Rattle.std.proofs.Common.{◌≡◌, ◌<◌, ℕ, Bool, true, false, List, [], ◌∷◌, Option, Some, None, refl, sym, ap, subst, ◌∙◌, ⊎_elim}
+use Rattle.std.proofs.Common.{◌≡◌, ◌<◌, ℕ, Bool, true, false, List, [], ◌∷◌, Some, None, refl, sym, ap, subst, ◌∙◌, ⊎_elim}
 use Rattle.std.proofs.lemmas.Bool.{cases_order}
 use Rattle.std.specs.Prelude.{slice_get}
 use Rattle.dg_base.specs.declared.Place.{Place}
 use Rattle.dg_base.specs.declared.refusal.Refusal.{Refusal}
+use Rattle.dg_base.proofs.Lists.{not_none, one_answer}
 use Rattle.axiom_model.specs.declared.Candidate.{Candidate}
 use Rattle.axiom_model.specs.declared.MemoryModel.{MemoryModel}
 use Rattle.axiom_model.specs.declared.ThreadPart.{ThreadPart}
@@ -24,22 +25,16 @@ use Rattle.dg_top.specs.Laws.{FailingIsAlone}
 
 -- ---- the first failing thread
 
-no_and_some : {A : Type 0} (o : Option A) (x : A) → o ≡ None → o ≡ Some x → ⊥
-no_and_some o x e f = cc
-
 -- no run fails in this way before the first one that does
 not_earlier : (c : Candidate) (rs : List Run) (h k : ℕ) (at bt : Place) (b : Bool) (x : FailsFirst c rs h at b) (y : FailsFirst c rs k bt b) → x.number < y.number → ⊥
-not_earlier c rs h k at bt b x y less = no_and_some (failed_by b x.run) at (y.not_before x.number x.run less x.is_run) x.fails
-
-same_some : {A : Type 0} (o : Option A) (x y : A) → o ≡ Some x → o ≡ Some y → x ≡ y
-same_some o x y e f = cc
+not_earlier c rs h k at bt b x y less = not_none (failed_by b x.run) at (y.not_before x.number x.run less x.is_run) x.fails
 
 -- a bound is told only where no assertion fails
 one_way : (c : Candidate) (rs : List Run) (h k : ℕ) (at bt : Place) (a b : Bool) → FailsFirst c rs h at a → FailsFirst c rs k bt b → b ≡ a
 one_way c rs h k at bt true true x y = refl
 one_way c rs h k at bt false false x y = refl
-one_way c rs h k at bt true false x y = absurd (no_and_some (failed_by false y.run) bt (x.no_assertion refl y.number y.run y.is_run) y.fails)
-one_way c rs h k at bt false true x y = absurd (no_and_some (failed_by false x.run) at (y.no_assertion refl x.number x.run x.is_run) x.fails)
+one_way c rs h k at bt true false x y = absurd (not_none (failed_by false y.run) bt (x.no_assertion refl y.number y.run y.is_run) y.fails)
+one_way c rs h k at bt false true x y = absurd (not_none (failed_by false x.run) at (y.no_assertion refl x.number x.run x.is_run) x.fails)
 
 -- the first failing thread, the place where it fails and the way are one
 one_first : (c : Candidate) (rs : List Run) (h k : ℕ) (at bt : Place) (a b : Bool) → FailsFirst c rs h at a → FailsFirst c rs k bt b → (k ≡ h) × (bt ≡ at) × (b ≡ a)
@@ -53,10 +48,10 @@ one_first c rs h k at bt a b x y = one (subst (λ (z : Bool). FailsFirst c rs k 
       where
         same : x.number ≡ z.number → (k ≡ h) × (bt ≡ at) × (b ≡ a)
         same e =
-            let part : x.part ≡ z.part = same_some (slice_get c.threads z.number) x.part z.part (subst (λ (n : ℕ). slice_get c.threads n ≡ Some x.part) e x.is_part) z.is_part in
-            let run : x.run ≡ z.run = same_some (slice_get rs z.number) x.run z.run (subst (λ (n : ℕ). slice_get rs n ≡ Some x.run) e x.is_run) z.is_run in (
+            let part : x.part ≡ z.part = one_answer (slice_get c.threads z.number) x.part z.part (subst (λ (n : ℕ). slice_get c.threads n ≡ Some x.part) e x.is_part) z.is_part in
+            let run : x.run ≡ z.run = one_answer (slice_get rs z.number) x.run z.run (subst (λ (n : ℕ). slice_get rs n ≡ Some x.run) e x.is_run) z.is_run in (
               sym z.handle_is ∙ sym (ap (λ (t : ThreadPart). t.handle) part) ∙ x.handle_is,
-              same_some (failed_by a z.run) bt at z.fails (subst (λ (r : Run). failed_by a r ≡ Some at) run x.fails),
+              one_answer (failed_by a z.run) bt at z.fails (subst (λ (r : Run). failed_by a r ≡ Some at) run x.fails),
               way,
             )
 

@@ -18,7 +18,5 @@ mod text;
 mod verify;
 
 pub use command::run;
-pub use laws::{
-    failing_is_alone, run_over_honest_desk, safe_excludes_unsafe, unsafe_is_replayed,
-};
+pub use laws::{failing_is_alone, run_over_honest_desk, safe_excludes_unsafe, unsafe_is_replayed};
 pub use settings::{Job, Options, Settings};
