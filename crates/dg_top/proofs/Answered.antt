@@ -1,5 +1,5 @@
 -- Which answers of a job there are, and what follows for the status.
-use Rattle.std.proofs.Common.{◌≡◌, ◌≢◌, ◌↔◌, ℕ, Bool, List, [], ◌∷◌, Some, None, Result, Ok, Err, IfOk, sym, subst, ◌∙◌}
+use Rattle.std.proofs.Common.{arith, ◌≡◌, ◌≢◌, ◌↔◌, ℕ, Bool, List, [], ◌∷◌, Some, None, Result, Ok, Err, IfOk, sym, subst, ◌∙◌}
 use Rattle.dg_base.specs.declared.Place.{Place}
 use Rattle.dg_base.specs.declared.outside.Trouble.{Trouble}
 use Rattle.dg_base.specs.declared.refusal.Refusal.{Refusal}
@@ -33,7 +33,7 @@ pub one_status : (s : Settings) (texts : List (List ℕ)) (r : Reply) → IsOneO
 one_status s texts r o = λ e. answer_status s texts o.answer o.allowed (sym o.spelled.status ∙ e)
 
 pub long_status : (name : List ℕ) (r : Reply) → Spells (LongFile name) r → r.status ≢ 3
-long_status name r spelled = λ e. let four : 4 ≡ r.status = sym spelled.status in let no : 4 ≡ 3 = four ∙ e in cc
+long_status name r spelled = λ e. let four : r.status ≡ 4 = spelled.status in omega arith
 
 pub bad_status : (r : Reply) → Spells BadWords r → r.status ≡ 3
 bad_status r spelled = spelled.status
