@@ -41,6 +41,18 @@ fn sections_are_checked(rt: HostRuntime) {
             ("section", 1, 53),
         ),
         (
+            "int main() { while (1) { __VERIFIER_atomic_begin(); continue; __VERIFIER_atomic_end(); } return 0; }",
+            ("section", 1, 53),
+        ),
+        (
+            "int main() { if (1) __VERIFIER_atomic_begin(); return 0; }",
+            ("section", 1, 21),
+        ),
+        (
+            "int main() { { __VERIFIER_atomic_begin(); } __VERIFIER_atomic_end(); return 0; }",
+            ("section", 1, 16),
+        ),
+        (
             "int main() { while (1) { __VERIFIER_atomic_begin(); __VERIFIER_atomic_end(); break; } return 0; }",
             ("accepted", 0, 0),
         ),
