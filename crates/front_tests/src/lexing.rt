@@ -314,12 +314,14 @@ fn repeated(
     Ok(text)
 }
 
+// 64 of them.
+const BLANKS: &str = "                                                                ";
+
 #[test]
 fn keeps_limits(rt: HostRuntime) {
     for (begin, part, times, end, want) in [
-        ("", " ", 1048576, "", ""),
-        ("", " ", 1048577, "", "text 1048577"),
-        ("", "$", 1048577, "", "text 1048577"),
+        ("$", BLANKS, 16383, "                                                               ", "bad byte 1:1"),
+        ("$", BLANKS, 16383, BLANKS, "text 1048577"),
         ("", ";", 65537, "", "tokens 65537"),
         ("#define A ", "x ", 1024, "\nx", "x "),
         ("#define A ", "x ", 1025, "\nx", "macro 1025"),
