@@ -269,7 +269,13 @@ fn refuses_words(rt: HostRuntime) {
         };
         assert!(rt; has_answer(&rt, text.as_str(), want.as_str()));
     }
-    assert!(rt; has_answer(&rt, "x \"struct\" structs Char", "x \"struct\" structs Char "));
+    assert!(rt;
+        has_answer(
+            &rt,
+            "x \"struct\" structs Char",
+            "x \"struct\" structs Char "
+        )
+    );
 }
 
 #[test]
@@ -320,19 +326,19 @@ const BLANKS: &str = "                                                          
 #[test]
 fn keeps_limits(rt: HostRuntime) {
     for (begin, part, times, end, want) in [
-        ("$", BLANKS, 16383, "                                                               ", "bad byte 1:1"),
+        (
+            "$",
+            BLANKS,
+            16383,
+            "                                                               ",
+            "bad byte 1:1",
+        ),
         ("$", BLANKS, 16383, BLANKS, "text 1048577"),
         ("", ";", 65537, "", "tokens 65537"),
         ("#define A ", "x ", 1024, "\nx", "x "),
         ("#define A ", "x ", 1025, "\nx", "macro 1025"),
         ("#define A ", "x ", 1025, "\nchar", "unsupported 2:1 char"),
-        (
-            "#define A ",
-            "x ",
-            1025,
-            "\n#define B A A\nx",
-            "macro 1025",
-        ),
+        ("#define A ", "x ", 1025, "\n#define B A A\nx", "macro 1025"),
         (
             "#define A x x\n#define B ",
             "A ",
