@@ -334,7 +334,6 @@ fn keeps_limits(rt: HostRuntime) {
             "bad byte 1:1",
         ),
         ("$", BLANKS, 16383, BLANKS, "text 1048577"),
-        ("", ";", 65537, "", "tokens 65537"),
         ("#define A ", "x ", 1024, "\nx", "x "),
         ("#define A ", "x ", 1025, "\nx", "macro 1025"),
         ("#define A ", "x ", 1025, "\nchar", "unsupported 2:1 char"),
@@ -354,18 +353,18 @@ fn keeps_limits(rt: HostRuntime) {
     }
 }
 
-// The number of the tokens, where the text is not refused.
-fn counted(alloc: Global, begin: &str, part: &str, times: usize, end: &str) -> Option<usize> {
-    let text = repeated(alloc, begin, part, times, end).ok()?;
-    let tokens = tokens(alloc, text.as_bytes()).ok()?;
-    Some(tokens.list.len())
+// So many uses of a macro of 1024 tokens, and what stands behind them.
+fn used(alloc: Global, times: usize, end: &str) -> Result<String, OutOfMemory> {
+    let line = repeated(alloc, "#define A ", ";", 1024, "\n")?;
+    repeated(alloc, line.as_str(), "A ", times, end)
 }
 
 #[test]
-fn reads_up_to_the_limits(rt: HostRuntime) {
-    let alloc = rt.alloc();
-    assert!(rt; counted(alloc, "", ";", 65536, "") == Some(65536));
-    assert!(rt; counted(alloc, "#define A ", "x ", 1024, "\nA A") == Some(2048));
+fn counts_tokens(rt: HostRuntime) {
+    let Ok(text) = used(rt.alloc(), 64, ";") else {
+        return assert!(rt; false);
+    };
+    assert!(rt; has_answer(&rt, text.as_str(), "tokens 65537"));
 }
 
 // A text that doubles a macro 40 times, with this last line.
