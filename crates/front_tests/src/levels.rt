@@ -1,20 +1,28 @@
 // How deep trees are: the nodes with children on the longest way down.
 use c_stmt::parse;
 use c_token::lexer::tokens;
-use c_tree::Item;
+use c_tree::{Item, Program};
 use std::alloc::Global;
+
+// The level of the first statement of the first function.
+fn first_level(program: &Program) -> Option<u32> {
+    match program.items.as_slice().first() {
+        Some(Item::Function(function)) => function.body.as_slice().first().map(|stmt| stmt.level()),
+        _ => None,
+    }
+}
 
 // The level of the first statement of a body.
 fn level(alloc: Global, body: &str) -> Option<u32> {
     let text = format!(in alloc; "void f() {{ {body} }}").ok()?;
     let tokens = tokens(alloc, text.as_bytes()).ok()?;
-    let program = parse(alloc, &tokens).ok()?;
-    match program.items.as_slice().first() {
-        Some(Item::Function(function)) => {
-            let stmt = function.body.as_slice().first()?;
-            Some(stmt.level())
+    match parse(alloc, &tokens) {
+        Ok(program) => {
+            let level = first_level(&program);
+            drop(program);
+            level
         }
-        _ => None,
+        Err(_) => None,
     }
 }
 

@@ -1,4 +1,4 @@
-//! Tests of the front end, from texts and words: tokens and trees of expressions, statements and programs; names, types,
+//! Tests of the front end, from texts and words: tokens, and trees of expressions, statements and programs; names, types,
 //! sections, recursion and limits of whole texts, with the place of each refusal; what is told of a program; the first form.
 //!
 //! They stand above the crates that they try, so that each of these is proved once. A table has a row for each case, and one
@@ -11,6 +11,8 @@ mod expressions;
 mod forms;
 #[cfg(test)]
 mod levels;
+#[cfg(test)]
+mod lexing;
 #[cfg(test)]
 mod limits;
 #[cfg(test)]

@@ -41,6 +41,18 @@ fn sections_are_checked(rt: HostRuntime) {
             ("section", 1, 53),
         ),
         (
+            "int main() { while (1) { __VERIFIER_atomic_begin(); continue; __VERIFIER_atomic_end(); } return 0; }",
+            ("section", 1, 53),
+        ),
+        (
+            "int main() { if (1) __VERIFIER_atomic_begin(); return 0; }",
+            ("section", 1, 21),
+        ),
+        (
+            "int main() { { __VERIFIER_atomic_begin(); } __VERIFIER_atomic_end(); return 0; }",
+            ("section", 1, 16),
+        ),
+        (
             "int main() { while (1) { __VERIFIER_atomic_begin(); __VERIFIER_atomic_end(); break; } return 0; }",
             ("accepted", 0, 0),
         ),
@@ -138,6 +150,36 @@ fn limits_are_kept(rt: HostRuntime) {
             32,
             "int x; int main() { while (1) while (1) x += 1; }",
             ("accesses", 0, 2048),
+        ),
+        (
+            32,
+            "int x; int main() { while (x) while (1) x; }",
+            ("accesses", 0, 1057),
+        ),
+        (
+            32,
+            "int x; int main() { do while (1) x; while (x); }",
+            ("accesses", 0, 1056),
+        ),
+        (
+            32,
+            "int a[32]; int main() { while (1) while (1) a[0]; }",
+            ("accesses", 0, 32768),
+        ),
+        (
+            32,
+            "pthread_mutex_t m; int main() { while (1) while (1) pthread_mutex_lock(&m); }",
+            ("accesses", 0, 2048),
+        ),
+        (
+            32,
+            "pthread_mutex_t m; int main() { while (1) while (1) pthread_mutex_unlock(&m); while (1) pthread_mutex_destroy(&m); }",
+            ("accepted", 0, 0),
+        ),
+        (
+            32,
+            "int main() { while (1) while (1) 1 * 1; }",
+            ("weight", 0, 33857),
         ),
         (
             32,

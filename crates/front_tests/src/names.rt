@@ -34,6 +34,12 @@ fn names_are_checked(rt: HostRuntime) {
             ("accepted", 0, 0),
         ),
         ("int main() { abort(); return 0; }", ("accepted", 0, 0)),
+        ("int main() { g(); return 0; }", ("unknown", 1, 14)),
+        ("int g(); int main() { g(); return 0; }", ("unknown", 1, 23)),
+        (
+            "int f() { return 0; } int f() { return 0; } int main() { return 0; }",
+            ("duplicate", 1, 27),
+        ),
         (
             "void abort() { } int main() { return 0; }",
             ("duplicate", 1, 6),

@@ -38,6 +38,10 @@ fn values_fit(rt: HostRuntime) {
         ),
         ("int main() { (void) 1; return 0; }", ("accepted", 0, 0)),
         ("int main() { return (void) 1; }", ("type", 1, 21)),
+        (
+            "int main() { (pthread_mutex_t) 1; return 0; }",
+            ("type", 1, 14),
+        ),
         ("int main() { assert(1); return 0; }", ("accepted", 0, 0)),
         ("int main() { assert(1) + 1; return 0; }", ("type", 1, 14)),
         (
@@ -71,6 +75,18 @@ fn mutexes_fit(rt: HostRuntime) {
         (
             "pthread_mutex_t m = (PTHREAD_MUTEX_INITIALIZER); int main() { return 0; }",
             ("type", 1, 22),
+        ),
+        (
+            "pthread_mutex_t m = 1 + PTHREAD_MUTEX_INITIALIZER; int main() { return 0; }",
+            ("type", 1, 25),
+        ),
+        (
+            "int f(pthread_mutex_t p) { return 0; } int main() { return 0; }",
+            ("type", 1, 23),
+        ),
+        (
+            "pthread_mutex_t g() { } int main() { g(); return 0; }",
+            ("type", 1, 38),
         ),
         (
             "pthread_mutex_t m[2] = { PTHREAD_MUTEX_INITIALIZER }; int main() { return 0; }",
