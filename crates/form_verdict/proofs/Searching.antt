@@ -1,12 +1,13 @@
 -- What the search's tests say of a program: which assertion is the first of another value, and how a thread's writes end.
-use Rattle.std.proofs.Common.{◌≡◌, ℕ, zero, suc, ◌+◌, ◌-◌, ◌<◌, ◌≤◌, ◌⊎◌, List, [], ◌∷◌, ◌++◌, Bool, true, false, ◌&&◌, cond, Option, Some, None, refl, sym, ap, ◌∙◌, subst, ⊎_elim, arith, length, length-append, position, take, get_or, slice_get}
+use Rattle.std.proofs.Common.{◌≡◌, ℕ, zero, suc, ◌+◌, ◌-◌, ◌<◌, ◌≤◌, ◌⊎◌, List, [], ◌∷◌, ◌++◌, Bool, true, false, cond, Option, Some, None, refl, sym, ap, ◌∙◌, subst, ⊎_elim, arith, length, length-append, position, take, get_or, slice_get}
 use Rattle.std.specs.Prelude.{is_some, ◌==◌, nat_lt}
 use Rattle.std.specs.List.{list_all, position_or_len}
-use Rattle.std.proofs.lemmas.Bool.{cases_Bool, eqb-true, eqb-false, eq-eqb, ltb-false, not-true, not-false, and_parts, both_ways}
+use Rattle.std.proofs.lemmas.Bool.{cases_Bool, eqb-true, eqb-false, eq-eqb, ltb-false, not-true, not-false, both_ways}
 use Rattle.std.proofs.lemmas.List.{same_from_push}
 use Rattle.std.proofs.lemmas.List.Sums.{fails_before_first}
 use Rattle.std.proofs.lemmas.List.Quantifiers.{position-Some}
 use Rattle.std.proofs.lemmas.Option.{slice_get-get_or, get_or_from_slice_get, slice_get_within, slice_get_past}
+use Rattle.dg_base.proofs.Lists.{list_all_at, list_all_from}
 use Rattle.axiom_model.specs.declared.Event.{Event}
 use Rattle.axiom_model.specs.declared.Event.TheVariants.{Initial, At}
 use Rattle.first_form.specs.declared.form.Form.{Form}
@@ -20,15 +21,6 @@ use Rattle.form_verdict.proofs.FailsExecution.{few_writes}
 nil_of_length : {A : Type 0} (xs : List A) → length xs ≡ 0 → xs ≡ []
 nil_of_length [] e = refl
 nil_of_length (x ∷ xs) e = absurd (omega arith)
-
-list_all_there : {A : Type 0} (p : A → Bool) (xs : List A) (i : ℕ) (x : A) → list_all p xs ≡ true → slice_get xs i ≡ Some x → p x ≡ true
-list_all_there p [] i x t e = let n : None ≡ Some x = e in cc
-list_all_there p (y ∷ ys) zero x t e = let same : y ≡ x = cc in subst (λ z. p z ≡ true) same (and_parts (p y) (list_all p ys) t).0
-list_all_there p (y ∷ ys) (suc i) x t e = list_all_there p ys i x (and_parts (p y) (list_all p ys) t).1 e
-
-list_all_from : {A : Type 0} (p : A → Bool) (xs : List A) → ((i : ℕ) (x : A) → slice_get xs i ≡ Some x → p x ≡ true) → list_all p xs ≡ true
-list_all_from p [] h = refl
-list_all_from p (y ∷ ys) h = subst (λ b. (b && list_all p ys) ≡ true) (sym (h 0 y refl)) (list_all_from p ys (λ i x e. h (suc i) x e))
 
 agrees : (v : ℕ) (c : FormCheck) → disagrees v c ≡ false → c.value ≡ v
 agrees v c e = eqb-true c.value v (not-false (c.value == v) e)
@@ -121,7 +113,7 @@ none_writes_from f t (suc i) = there (slice_get f.created i) refl
   where
     there : (o : Option ℕ) → slice_get f.created i ≡ o → created_writes f o ≡ []
     there None e = refl
-    there (Some g) e = nil_of_length (function_writes f.threads g) (eqb-true (length (function_writes f.threads g)) 0 (list_all_there (λ k. length (function_writes f.threads k) == 0) f.created i g t e))
+    there (Some g) e = nil_of_length (function_writes f.threads g) (eqb-true (length (function_writes f.threads g)) 0 (list_all_at (λ k. length (function_writes f.threads k) == 0) f.created t i g e))
 
 pub some_writes_from : (f : Form) → list_all (λ g. length (function_writes f.threads g) == 0) f.created ≡ false → ((h : ℕ) → writes_of f h ≡ []) → ⊥
 some_writes_from f t none = both_ways (list_all (λ g. length (function_writes f.threads g) == 0) f.created) t (list_all_from (λ g. length (function_writes f.threads g) == 0) f.created (λ i g e. eq-eqb (length (function_writes f.threads g)) 0 (ap length (sym (writes_there f i g e) ∙ none (i + 1)))))
@@ -133,7 +125,3 @@ le_or_beyond h i = grind arith
 pub none_from : {A : Type 0} (o : Option A) → false ≡ is_some o → o ≡ None
 none_from None e = refl
 none_from (Some x) e = let d : false ≡ true = e in cc
-
-pub not_none : {A : Type 0} (o : Option A) → o ≡ None → true ≡ is_some o → ⊥
-not_none None e t = let d : true ≡ false = t in cc
-not_none (Some x) e t = cc
