@@ -8,7 +8,7 @@ use Rattle.axiom_model.specs.Failing.{HasWords}
 use Rattle.c_check.proofs.PlainNames.{all_back}
 use Rattle.first_form.specs.declared.form.Form.{Form}
 use Rattle.first_form.specs.declared.form.FormThread.{FormThread}
-use Rattle.first_form.specs.Form.{IsProgram, function_writes, written_by}
+use Rattle.first_form.specs.Form.{IsProgram, written_by}
 use Rattle.form_verdict.specs.Final.{Final, initial, written, created_writes, writes_of, main_part, parts_from, execution_with}
 use Rattle.form_verdict.proofs.Lists.{All-slice_get}
 
