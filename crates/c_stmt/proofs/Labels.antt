@@ -1,12 +1,12 @@
 -- Which expressions are labels before a `:`.
-use Rattle.std.proofs.Common.{◌≡◌, ℕ, Bool, List, Option, Some, None, refl, sym, ap, ◌∙◌}
+use Rattle.std.proofs.Common.{◌≡◌, ℕ, Bool, List, Option, Some, None, sym, ap, ◌∙◌}
 use Rattle.dg_base.specs.declared.Place.{Place}
 use Rattle.c_tree.specs.declared.expr.TypeWord.{TypeWord}
 use Rattle.c_tree.specs.declared.expr.UnaryOp.{UnaryOp}
 use Rattle.c_tree.specs.declared.expr.StepOp.{StepOp}
 use Rattle.c_tree.specs.declared.expr.BinaryOp.{BinaryOp}
 use Rattle.c_tree.specs.declared.expr.AssignOp.{AssignOp}
-use Rattle.c_tree.specs.declared.expr.Expr.{Expr, fold-roll-Expr, fold_out-Expr, map-Expr, out-Expr, roll-Expr, roll-out-Expr}
+use Rattle.c_tree.specs.declared.expr.Expr.{Expr, fold-roll-Expr}
 use Rattle.c_tree.specs.declared.expr.Expr.TheVariants as e
 use Rattle.c_tree.specs.declared.expr.Expr.TheOpen.{Expr-F}
 use Rattle.c_stmt.specs.Machine.{Label, label_step, label_of}
@@ -70,16 +70,5 @@ label-comma p x y = ap label_of (sym (e.rolls-Comma p x y)) ∙ fold-roll-Expr (
 pub label-address : (p : Place) (x : Expr) → label_of (e.Address p x) ≡ None
 unfolding label_of
 label-address p x = ap label_of (sym (e.rolls-Address p x)) ∙ fold-roll-Expr (Option Label) label_step (Expr-F.Address p x)
-
-layer_unless : (l : Expr-F Expr) → ((p : Place) (c : List ℕ) → l ≡ Expr-F.Name p c → ⊥) → label_step (map-Expr Expr (Option Label) label_of l) ≡ None
-layer_unless (Expr-F.Name p c) no = absurd (no p c refl)
-layer_unless _ no = refl
-
--- what is no name is no label
-pub label_unless : (x : Expr) → ((p : Place) (c : List ℕ) → x ≡ e.Name p c → ⊥) → label_of x ≡ None
-unfolding label_of
-label_unless x no =
-    fold_out-Expr (Option Label) label_step x
-    ∙ layer_unless (out-Expr x) (λ p c is. no p c (sym (roll-out-Expr x) ∙ (ap (λ l. roll-Expr l) is ∙ e.rolls-Name p c)))
 
 pub ruleset label_laws = (label-name, label-number, label-text, label-bracket, label-index, label-call, label-cast, label-unary, label-step_before, label-step_after, label-binary, label-choose, label-assign, label-comma, label-address)
