@@ -3,10 +3,11 @@ pub mod Shaped
 pub mod Parts
 pub mod Ran
 pub mod Events
-pub mod Happened
+pub mod ActionList
 pub mod Acting
 pub mod Sourced
 pub mod Ordered
 pub mod Whole
 pub mod Excluding
 pub mod Stages
+pub mod OneBroken
