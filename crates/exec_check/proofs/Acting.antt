@@ -24,7 +24,7 @@ use Rattle.exec_check.specs.ThreadTests.{first_not, handle_of, seen_by}
 use Rattle.exec_check.specs.EventActions.{event_of, event_action, ListsActions}
 use Rattle.exec_check.specs.ActionTests.{creates_by, creates, is_created, has_handle, child_there, has_child, child, child_of, has_ended, end_there, joins_ended}
 use Rattle.exec_check.proofs.Listed.{any_decides, first_not-none, first_not-some}
-use Rattle.exec_check.proofs.Parts.{first_thread}
+use Rattle.exec_check.proofs.Present.{first_thread}
 use Rattle.exec_check.proofs.Whole.{thread_at, part_at}
 use Rattle.exec_check.proofs.ActionList.{each_action, first_action}
 

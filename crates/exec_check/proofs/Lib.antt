@@ -1,6 +1,6 @@
 pub mod Listed
 pub mod Shaped
-pub mod Parts
+pub mod Present
 pub mod Ran
 pub mod Events
 pub mod ActionList

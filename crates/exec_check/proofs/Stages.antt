@@ -4,6 +4,8 @@ use Rattle.std.specs.Prelude.{slice_get}
 use Rattle.std.proofs.lemmas.List.{length-map}
 use Rattle.dg_base.proofs.Lists.{get_map, get_from_map}
 use Rattle.axiom_model.specs.declared.Event.{Event}
+use Rattle.axiom_model.specs.declared.MemoryModel.{MemoryModel}
+use Rattle.axiom_model.specs.declared.RfPair.{RfPair}
 use Rattle.axiom_model.specs.declared.ThreadPart.{ThreadPart}
 use Rattle.axiom_model.specs.declared.Candidate.{Candidate}
 use Rattle.axiom_model.specs.Execution.{Thread, action_at}
@@ -11,14 +13,17 @@ use Rattle.c_check.specs.declared.checked.CellInfo.{CellInfo}
 use Rattle.c_check.specs.declared.checked.Checked.{Checked}
 use Rattle.c_check.specs.WellFormed.{IsChecked}
 use Rattle.consistency.specs.declared.ThreadActions.{ThreadActions}
-use Rattle.consistency.specs.Seen.{thread_seen, execution_seen}
+use Rattle.consistency.specs.Seen.{thread_seen}
+use Rattle.exec_check.specs.declared.Reject.{Reject}
+use Rattle.exec_check.specs.declared.Reject.TheVariants.{MainMissing, ThreadTwice, UnknownThread, ScriptShort, ScriptLong, BadRun, NoCreate, NoThread, BadSource, BadOrder, BadJoin, LocalCycle, GlobalCycle, BlockCycle, NotFailing, OutOfMemory}
 use Rattle.exec_check.specs.declared.event_actions.EventAction.{EventAction}
 use Rattle.exec_check.specs.First.{FirstHandle, FirstEvent, FirstNumber}
 use Rattle.exec_check.specs.Running.{alone, acting, execution_in, shape}
 use Rattle.exec_check.specs.Conditions.{IsCreated, AtAction, IsSourced, HasOrder, JoinsAnEnded, HasRuns, HasCreates, HasChildren, HasSources, HasOrders, IsExecution}
-use Rattle.exec_check.specs.Broken.{FirstChild}
+use Rattle.exec_check.specs.Broken.{FirstChild, ThreadsBreak, IsFirstBroken}
 use Rattle.exec_check.specs.ThreadTests.{first_not, handle_of, seen_by}
 use Rattle.exec_check.specs.EventActions.{event_actions, event_of, ListsActions}
+use Rattle.exec_check.specs.Done.{Acts}
 use Rattle.exec_check.specs.ActionTests.{is_created, has_child, child_of, has_source, least_unread, bad_order_from, joins_ended}
 use Rattle.exec_check.proofs.Shaped.{cells_shaped}
 use Rattle.exec_check.proofs.ActionList.{Rise, lists}
@@ -97,12 +102,46 @@ orders_break p c ws cells d k n h e = orders_some (shape p) (execution_in p c) w
 
 -- ---- joins
 
-pub joins_hold : (p : Checked) (c : Candidate) (ts : List ThreadActions) (ws : List EventAction) → execution_seen ts c.rf c.co ≡ execution_in p c → ListsActions (execution_in p c) ws → HasOrders p c → first_not (joins_ended ts) event_of ws ≡ None → IsExecution p c
-joins_hold p c ts ws s h r e = record {
+-- what the code holds of threads alone is what it holds of the candidate
+pub acts_in : (p : Checked) (c : Candidate) (ts : List ThreadActions) (ws : List EventAction) → Seen p c.threads ts → ListsActions (acting p c.threads) ws → Acts p c ts ws
+acts_in p c ts ws s h = record { seen = seen_is p c c.threads ts refl s; listed = listed_in p c ws h }
+
+pub joins_hold : (p : Checked) (c : Candidate) (ts : List ThreadActions) (ws : List EventAction) → HasOrders p c → Acts p c ts ws → first_not (joins_ended ts) event_of ws ≡ None → IsExecution p c
+joins_hold p c ts ws r a e = record {
   orders = r;
-  joins = subst (λ x. (f : Event) → AtAction x (JoinsAnEnded x) f) s (joins_none ts c.rf c.co ws (subst (λ x. ListsActions x ws) (sym s) h) e);
+  joins = subst (λ x. (f : Event) → AtAction x (JoinsAnEnded x) f) a.seen (joins_none ts c.rf c.co ws (subst (λ x. ListsActions x ws) (sym a.seen) a.listed) e);
 }
 
-pub joins_break : (p : Checked) (c : Candidate) (ts : List ThreadActions) (ws : List EventAction) (f : Event) → execution_seen ts c.rf c.co ≡ execution_in p c → ListsActions (execution_in p c) ws → first_not (joins_ended ts) event_of ws ≡ Some f → FirstEvent (AtAction (execution_in p c) (JoinsAnEnded (execution_in p c))) f
-joins_break p c ts ws f s h e =
-    subst (λ x. FirstEvent (AtAction x (JoinsAnEnded x)) f) s (joins_some ts c.rf c.co ws f (subst (λ x. ListsActions x ws) (sym s) h) e)
+pub joins_break : (p : Checked) (c : Candidate) (ts : List ThreadActions) (ws : List EventAction) (f : Event) → Acts p c ts ws → first_not (joins_ended ts) event_of ws ≡ Some f → FirstEvent (AtAction (execution_in p c) (JoinsAnEnded (execution_in p c))) f
+joins_break p c ts ws f a e =
+    subst (λ x. FirstEvent (AtAction x (JoinsAnEnded x)) f) a.seen (joins_some ts c.rf c.co ws f (subst (λ x. ListsActions x ws) (sym a.seen) a.listed) e)
+
+-- ---- threads alone
+
+-- what is first broken of threads alone is first broken of the candidate
+pub threads_break : (p : Checked) (m : MemoryModel) (c : Candidate) (e : Reject) → ThreadsBreak p c.threads e → IsFirstBroken p m c e
+threads_break p m c (BadSource f) b = absurd b
+threads_break p m c (BadOrder n) b = absurd b
+threads_break p m c (BadJoin f) b = absurd b
+threads_break p m c (LocalCycle l) b = absurd b
+threads_break p m c (GlobalCycle l) b = absurd b
+threads_break p m c (BlockCycle l) b = absurd b
+threads_break p m c NotFailing b = absurd b
+threads_break p m c MainMissing b = b
+threads_break p m c (ThreadTwice h) b = b
+threads_break p m c (UnknownThread h) b = b
+threads_break p m c (ScriptShort h) b = b
+threads_break p m c (ScriptLong h) b = b
+threads_break p m c (BadRun h) b = b
+threads_break p m c (NoCreate h) b = b
+threads_break p m c (NoThread h) b = b
+threads_break p m c OutOfMemory b = b
+
+-- ---- what is told of slices, of the lists that they are
+
+pub sources_told : (o : Option Event) (cells bells : List CellInfo) (ws : List EventAction) (rf sf : List RfPair) → bells ≡ cells → sf ≡ rf → least_unread ws (first_not (has_source bells ws sf) event_of ws) sf ≡ o → least_unread ws (first_not (has_source cells ws rf) event_of ws) rf ≡ o
+sources_told o cells bells ws rf sf k f e =
+    subst (λ z. least_unread ws (first_not (has_source cells ws z) event_of ws) z ≡ o) f (subst (λ z. least_unread ws (first_not (has_source z ws sf) event_of ws) sf ≡ o) k e)
+
+pub orders_told : (o : Option ℕ) (cells : ℕ) (ws : List EventAction) (co ls : List (List Event)) → ls ≡ co → bad_order_from ws cells 0 ls ≡ o → bad_order_from ws cells 0 co ≡ o
+orders_told o cells ws co ls k e = subst (λ z. bad_order_from ws cells 0 z ≡ o) k e

@@ -12,7 +12,7 @@ ghost use Rattle.exec_check.specs.Running.{execution_in};
 ghost use Rattle.exec_check.specs.Conditions.{HasChildren, HasSources, HasOrders, IsExecution};
 ghost use Rattle.exec_check.specs.Broken.{IsFirstBroken};
 ghost use Rattle.exec_check.specs.EventActions.{ListsActions};
-ghost use Rattle.exec_check.specs.Done.{HasDone};
+ghost use Rattle.exec_check.specs.Done.{HasDone, Acts};
 
 use crate::event_actions::EventAction;
 use crate::threads::Done;
@@ -72,14 +72,10 @@ fn check_orders(
     }
 }
 
-// Whether each Join waits for a thread that came to its end.
+// Whether each Join waits for a thread that came to its end, of any candidate whose actions these are.
 fn check_joins(event_actions: &[EventAction], threads: &[ThreadActions]) -> Result<(), Reject>
-    ghost of: { Checked × Candidate }
-    requires orders { HasOrders of.0 of.1 }
-    requires listed { ListsActions (execution_in of.0 of.1) event_actions.now }
-    requires seen { execution_seen threads.now of.1.rf of.1.co ≡ execution_in of.0 of.1 }
-    ensures whole { OnOk result (IsExecution of.0 of.1) }
-    ensures broken { (m : MemoryModel) → IfErr result (IsFirstBroken of.0 m of.1) }
+    ensures whole { (p : Checked) (c : Candidate) → HasOrders p c → Acts p c threads.now event_actions.now → OnOk result (IsExecution p c) }
+    ensures broken { (p : Checked) (m : MemoryModel) (c : Candidate) → HasOrders p c → Acts p c threads.now event_actions.now → IfErr result (IsFirstBroken p m c) }
 {
     match joins::bad_join(event_actions, threads) {
         Some(event) => Err(Reject::BadJoin(event)),

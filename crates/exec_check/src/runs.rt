@@ -128,8 +128,7 @@ fn earlier(first: Option<Failing>, second: Option<Failing>) -> Option<Failing>
 // The runs of threads, each of which uses its whole script and makes no bad choice.
 fn run_parts(alloc: Global, checked: &Checked, parts: &[ThreadPart]) -> Result<Runs, Reject>
     requires { EachThread (IsKnown (shape checked.now)) parts.now }
-    ensures words { OnOk result (HasWords (alone parts.now)) }
-    ensures well { OnOk result (first_wrong checked.now parts.now ≡ None) }
+    ensures well { OnOk result (HasWords (alone parts.now) × (first_wrong checked.now parts.now ≡ None)) }
     ensures seen { IfOk result (λ r. map thread_seen r.threads ≡ map (seen_by checked.now) parts.now) }
     ensures failing { IfOk result (λ r. r.failing ≡ told_failing checked.now parts.now) }
     ensures wrong { IfErr result (λ e. (e ≡ reject.OutOfMemory) ⊎ (first_wrong checked.now parts.now ≡ Some e)) }

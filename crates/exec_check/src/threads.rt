@@ -44,13 +44,10 @@ fn listed(alloc: Global, threads: &[ThreadActions]) -> Result<List<EventAction>,
     }
 }
 
-// Whether some action creates each thread but main.
+// Whether some action creates each thread but main, of any program whose actions these are.
 fn check_creates(event_actions: &[EventAction], parts: &[ThreadPart]) -> Result<(), Reject>
-    ghost checked: { Checked }
-    requires runs { HasRuns checked parts.now }
-    requires listed { ListsActions (acting checked parts.now) event_actions.now }
-    ensures created { OnOk result (HasCreates checked parts.now) }
-    ensures broken { IfErr result (ThreadsBreak checked parts.now) }
+    ensures created { (p : Checked) → HasRuns p parts.now → ListsActions (acting p parts.now) event_actions.now → OnOk result (HasCreates p parts.now) }
+    ensures broken { (p : Checked) → HasRuns p parts.now → ListsActions (acting p parts.now) event_actions.now → IfErr result (ThreadsBreak p parts.now) }
 {
     match not_created(event_actions, parts) {
         Some(handle) => Err(Reject::NoCreate(handle)),
@@ -58,13 +55,10 @@ fn check_creates(event_actions: &[EventAction], parts: &[ThreadPart]) -> Result<
     }
 }
 
-// Whether each created thread is there.
+// Whether each created thread is there, of any such program.
 fn check_children(event_actions: &[EventAction], parts: &[ThreadPart]) -> Result<(), Reject>
-    ghost checked: { Checked }
-    requires creates { HasCreates checked parts.now }
-    requires listed { ListsActions (acting checked parts.now) event_actions.now }
-    ensures children { OnOk result (HasChildren checked parts.now) }
-    ensures broken { IfErr result (ThreadsBreak checked parts.now) }
+    ensures children { (p : Checked) → HasCreates p parts.now → ListsActions (acting p parts.now) event_actions.now → OnOk result (HasChildren p parts.now) }
+    ensures broken { (p : Checked) → HasCreates p parts.now → ListsActions (acting p parts.now) event_actions.now → IfErr result (ThreadsBreak p parts.now) }
 {
     match missing_child(event_actions, parts) {
         Some(handle) => Err(Reject::NoThread(handle)),

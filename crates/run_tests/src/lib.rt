@@ -1,13 +1,12 @@
-// A library with one function.
+//! Tests of runs and executions, from C text: what a thread does on a script, and what is told of a candidate under each model.
+//!
+//! They stand above the crates that they try, so that each of these is proved once. A table has a row for each case, and one
+//! function goes through it.
 #![tactic(auto)]
 
-ghost use Rattle.std.specs.Prelude.{◌≡◌};
-ghost use Rattle.run_tests.specs.Echo.{echo_of};
-
-// The `ensures` clause is the contract: what `echo` returns is `echo_of` of its argument, a definition
-// in `specs/Echo.antt`, which a caller's clause can cite too.
-pub fn echo(x: usize) -> usize
-    ensures { result ≡ echo_of x }
-{
-    x
-}
+#[cfg(test)]
+mod candidates;
+#[cfg(test)]
+mod executions;
+#[cfg(test)]
+mod runs;

@@ -4,7 +4,7 @@ use Rattle.std.specs.Prelude.{codes, unwrap_or, length}
 use Rattle.c_rules.specs.Names.{Name}
 use Rattle.run_model.specs.Names.{first_named}
 use Rattle.exec_check.specs.ThreadTests as tests
-use Rattle.exec_check.proofs.Parts.{main_found, main_missing, rising_none, rising_some, all_known, one_unknown}
+use Rattle.exec_check.proofs.Present.{main_found, main_missing, rising_none, rising_some, all_known, one_unknown}
 use Rattle.exec_check.proofs.parts.check_parts.Goals as goal
 
 pub returns-then-not-has_main-clause-broken : goal.returns-then-not-has_main-clause-broken
