@@ -70,9 +70,9 @@ call_cost items table s p n n1 n2 n3 xs ys z first read made body called one who
     let is_read : read ≡ reads (first_accesses n) xs = hr ∙ (ap (λ (m : ℕ). reads m ys) (hf ∙ ap first_accesses h1) ∙ ap (reads (first_accesses n)) hy) in
     let is_made : made ≡ thread n xs = hm ∙ (ap (λ (m : Name). thread m ys) h2 ∙ ap (thread n) hy) in
     let is_whole : whole ≡ capped_sums.together (capped_sums.weight 1) (reads (first_accesses n) xs) =
-        hw ∙ (ap (λ (c : Counts). capped_sums.together c read) ho ∙ ap (capped_sums.together (capped_sums.weight 1)) is_read) in
+    hw ∙ (ap (λ (c : Counts). capped_sums.together c read) ho ∙ ap (capped_sums.together (capped_sums.weight 1)) is_read) in
     let is_called : called ≡ capped_sums.together (table_named items table n) (thread n xs) =
-        hc ∙ (ap (λ (c : Counts). capped_sums.together c made) (hb ∙ ap (table_named items table) h3) ∙ ap (capped_sums.together (table_named items table n)) is_made) in
+    hc ∙ (ap (λ (c : Counts). capped_sums.together c made) (hb ∙ ap (table_named items table) h3) ∙ ap (capped_sums.together (table_named items table n)) is_made) in
     h ∙ (ha ∙ (ap (λ (c : Counts). capped_sums.together c called) is_whole
     ∙ (ap (capped_sums.together (capped_sums.together (capped_sums.weight 1) (reads (first_accesses n) xs))) is_called
     ∙ (sym (call_parts items table s p n xs) ∙ ap (λ (x : Expr). (expr_cost items table s x).parts) (sym hz)))))

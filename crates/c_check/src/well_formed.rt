@@ -7,11 +7,11 @@ ghost use Rattle.c_check.specs.WellFormed.{KeepsLimits, IsFirstRefusal, IsChecke
 ghost use Rattle.c_check.specs.Rest.{KeepsRest, IsLimitRefusal, IsRestRefusal};
 
 use crate::checked::Checked;
+use crate::function_counts::main_counts;
 use crate::limits::first_exceeded;
 use crate::names_and_cells::{cells_of, function_names};
 use crate::recursion::call_order;
 use crate::sections::first_unmatched;
-use crate::function_counts::main_counts;
 use c_rules::{check_names, check_types};
 use c_tree::Program;
 use dg_base::{OutOfMemory, Refusal};
@@ -47,12 +47,7 @@ fn check_rest(alloc: Global, k: u32, program: &Program) -> Result<(), Refusal>
 }
 
 // The program with its lists.
-fn with_lists(
-    alloc: Global,
-    program: Program,
-    k: u32,
-    full: bool,
-) -> Result<Checked, OutOfMemory>
+fn with_lists(alloc: Global, program: Program, k: u32, full: bool) -> Result<Checked, OutOfMemory>
     ensures { IfOk result (λ c. (c.program ≡ program) × (c.k ≡ k) × (c.full ≡ full) × (c.functions ≡ lists.function_names program) × (c.cells ≡ lists.cells_of program)) }
 {
     let functions = function_names(alloc, program.items.as_slice())?;

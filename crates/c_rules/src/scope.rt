@@ -110,11 +110,7 @@ impl Scopes {
     }
 
     /// Declares a function's name, which counts as declared and is looked past; without memory the scope stays as it was.
-    pub fn declare_function(
-        &mut self,
-        alloc: Global,
-        function: &Function,
-    ) -> Result<(), AllocError>
+    pub fn declare_function(&mut self, alloc: Global, function: &Function) -> Result<(), AllocError>
         ensures declared { OnOk result (self.new ≡ declare_function function.now self.old) }
         ensures refused { OnErr result (self.new ≡ self.old) }
     {

@@ -7,7 +7,8 @@ use Rattle.std.proofs.lemmas.Option.{same_Some}
 use Rattle.axiom_model.specs.declared.Event.{Event}
 use Rattle.axiom_model.specs.declared.Event.TheVariants.{Initial, At}
 use Rattle.exec_check.specs.First.{Below}
-use Rattle.exec_check.specs.Happenings.{same_event, is_below}
+use Rattle.consistency.specs.Edges.{same_event}
+use Rattle.exec_check.specs.EventActions.{is_below}
 use Rattle.exec_check.specs.ActionTests.{lesser}
 
 pub same_decides : (a b : Event) → Decides (same_event a b) (a ≡ b)

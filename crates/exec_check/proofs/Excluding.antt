@@ -47,17 +47,18 @@ record FailsHere (p : Checked) (m : MemoryModel) (c : Candidate) : Type 0 where
 
 fails_here : (p : Checked) (m : MemoryModel) (c : Candidate) → ProgramFails p m c → FailsHere p m c
 fails_here p m c f =
-    let same = runs_are p c.threads f.threads f.whole in
-    let w : WellMade (shape p) (execution_in p c) = subst (λ s. WellMade s (execution_in p c)) (sym (shape_is p)) (subst (λ rs. WellMade (shape_of p.program) (execution_of c rs)) same f.well_made) in
+    let a = f.allowed in
+    let same = runs_are p c.threads a.threads a.whole in
+    let w : WellMade (shape p) (execution_in p c) = subst (λ s. WellMade s (execution_in p c)) (sym (shape_is p)) (subst (λ rs. WellMade (shape_of p.program) (execution_of c rs)) same a.well_made) in
     record {
-      execution = is_execution p c (well w) w;
-      consistent = subst (λ rs. Consistent m (execution_of c rs)) same f.consistent;
+      execution = is_execution p c a.words (well w) w;
+      consistent = subst (λ rs. Consistent m (execution_of c rs)) same a.consistent;
       fails = subst SomeFails same f.fails;
     }
   where
     well : WellMade (shape p) (execution_in p c) → EachThread (RunsWell p) c.threads
     well w k t e =
-        let r = told p c.threads f.threads f.whole k t e in
+        let r = told p c.threads f.allowed.threads f.allowed.whole k t e in
         let is : run_by p t ≡ r.0 = ap (λ o. unwrap_or o no_run) r.1 in
         let bad : (run_by p t).bad ≡ false = each_part p c (λ (u : Thread). u.bad ≡ false) w.none_bad k t e in
         (r.0, r.1, r.2, subst (λ (z : Run). z.bad ≡ false) is bad)

@@ -1,12 +1,13 @@
 pub mod Listed
 pub mod Shaped
-pub mod Parts
+pub mod Present
 pub mod Ran
 pub mod Events
-pub mod Happened
+pub mod ActionList
 pub mod Acting
 pub mod Sourced
 pub mod Ordered
 pub mod Whole
 pub mod Excluding
 pub mod Stages
+pub mod OneBroken

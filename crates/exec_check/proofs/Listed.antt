@@ -2,8 +2,9 @@
 use Rattle.std.proofs.Common.{◌≡◌, ℕ, zero, suc, ◌+◌, ◌<◌, List, [], ◌∷◌, map, Bool, true, false, cond, Option, Some, None, refl, sym, ap, ◌∙◌, subst, ⊎_elim, inl, inr, Decides, arith}
 use Rattle.std.specs.Prelude.{slice_get, ◌⊎◌}
 use Rattle.std.specs.List.{list_any, list_all}
-use Rattle.std.proofs.lemmas.Bool.{cases_Bool, and_parts, and_from, or_cases, or_left, or_right, cond-true, cond-false}
+use Rattle.std.proofs.lemmas.Bool.{cases_Bool, or_cases, or_left, or_right, cond-true, cond-false}
 use Rattle.std.proofs.lemmas.Option.{none-some, same_Some}
+use Rattle.dg_base.proofs.Lists.{list_all_at, list_all_from}
 use Rattle.c_rules.specs.Names.{or_else}
 use Rattle.exec_check.specs.ThreadTests.{first_not, passing}
 
@@ -23,29 +24,8 @@ pub any_decides : {A : Type 0} (f : A → Bool) (P : A → Type 0) → ((a : A) 
 any_decides f P d l =
     (λ t. let r = any_found f l t in (r.0, r.1, r.2, (d r.1).0 r.3), λ w. any_from f l w.0 w.1 w.2 ((d w.1).1 w.3))
 
-all_found : {A : Type 0} (f : A → Bool) (l : List A) → list_all f l ≡ true → (k : ℕ) (a : A) → slice_get l k ≡ Some a → f a ≡ true
-all_found f [] t k a e = absurd (none-some a e)
-all_found f (b ∷ l) t zero a e = subst (λ z. f z ≡ true) (same_Some b a e) (and_parts (f b) (list_all f l) t).0
-all_found f (b ∷ l) t (suc k) a e = all_found f l (and_parts (f b) (list_all f l) t).1 k a e
-
-all_from : {A : Type 0} (f : A → Bool) (l : List A) → ((k : ℕ) (a : A) → slice_get l k ≡ Some a → f a ≡ true) → list_all f l ≡ true
-all_from f [] h = refl
-all_from f (a ∷ l) h = and_from (f a) (list_all f l) (h 0 a refl) (all_from f l (λ k b e. h (suc k) b e))
-
 pub all_decides : {A : Type 0} (f : A → Bool) (P : A → Type 0) → ((a : A) → Decides (f a) (P a)) → (l : List A) → Decides (list_all f l) ((k : ℕ) (a : A) → slice_get l k ≡ Some a → P a)
-all_decides f P d l = (λ t k a e. (d a).0 (all_found f l t k a e), λ h. all_from f l (λ k a e. (d a).1 (h k a e)))
-
--- ---- a list and its image
-
-pub at_image : {A B : Type 0} (f : A → B) (l : List A) (k : ℕ) (a : A) → slice_get l k ≡ Some a → slice_get (map f l) k ≡ Some (f a)
-at_image f [] k a e = absurd (none-some a e)
-at_image f (b ∷ l) zero a e = ap (λ z. Some (f z)) (same_Some b a e)
-at_image f (b ∷ l) (suc k) a e = at_image f l k a e
-
-pub image_at : {A B : Type 0} (f : A → B) (l : List A) (k : ℕ) (b : B) → slice_get (map f l) k ≡ Some b → (a : A) × (slice_get l k ≡ Some a) × (f a ≡ b)
-image_at f [] k b e = absurd (none-some b e)
-image_at f (a ∷ l) zero b e = (a, refl, same_Some (f a) b e)
-image_at f (a ∷ l) (suc k) b e = image_at f l k b e
+all_decides f P d l = (λ t k a e. (d a).0 (list_all_at f l t k a e), λ h. list_all_from f l (λ k a e. (d a).1 (h k a e)))
 
 -- ---- the first that does not pass
 

@@ -11,14 +11,15 @@ use Rattle.axiom_model.specs.declared.Event.{Event}
 use Rattle.axiom_model.specs.declared.Event.TheVariants.{Initial}
 use Rattle.axiom_model.specs.Execution.{Execution, action_at}
 use Rattle.axiom_model.specs.WellMade.{Shape, IsWriteOrder}
-use Rattle.exec_check.specs.declared.happenings.Happening.{Happening}
+use Rattle.exec_check.specs.declared.event_actions.EventAction.{EventAction}
 use Rattle.exec_check.specs.First.{FirstNumber}
 use Rattle.exec_check.specs.Conditions.{HasOrder}
-use Rattle.exec_check.specs.Happenings.{same_event}
-use Rattle.exec_check.specs.ActionTests.{has_event, no_repeats, writes_cell, is_write, is_listed, orders_cell, first_disorder}
+use Rattle.consistency.specs.Edges.{same_event}
+use Rattle.exec_check.specs.EventActions.{event_action, ListsActions}
+use Rattle.exec_check.specs.ActionTests.{has_event, no_repeats, writes_cell, is_write, is_listed, orders_cell, bad_order_from}
 use Rattle.exec_check.proofs.Listed.{any_decides, all_decides, cond_none, cond_either}
 use Rattle.exec_check.proofs.Events.{same_decides}
-use Rattle.exec_check.proofs.Happened.{Happened, happening, any_action}
+use Rattle.exec_check.proofs.ActionList.{any_action}
 
 -- ---- one list
 
@@ -62,23 +63,23 @@ cell_decides c (Join k) = (λ t. cc, λ h. let g = h.1 in cc)
 cell_decides c Start = (λ t. cc, λ h. let g = h.1 in cc)
 cell_decides c End = (λ t. cc, λ h. let g = h.1 in cc)
 
-write_decides : (x : Execution) (ws : List Happening) → Happened x ws → (c : ℕ) (e : Event) → Decides (is_write ws c e) ((v : ℕ) × (action_at x e ≡ Some (Write c v)))
+write_decides : (x : Execution) (ws : List EventAction) → ListsActions x ws → (c : ℕ) (e : Event) → Decides (is_write ws c e) ((v : ℕ) × (action_at x e ≡ Some (Write c v)))
 write_decides x ws h c e =
     let d = any_action x ws (writes_cell c) (WritesCell c) h (cell_decides c) e in
     (λ t. let r = d.0 t in (r.2.0, r.1 ∙ ap Some r.2.1), λ g. d.1 (Write c g.0, g.1, (g.0, refl)))
 
-abbrev IsListed : ℕ → List Event → Happening → Type 0
+abbrev IsListed : ℕ → List Event → EventAction → Type 0
 IsListed c l w = (¬ WritesCell c w.action) ⊎ Has l w.event
 
-listed_decides : (c : ℕ) (l : List Event) (w : Happening) → Decides (is_listed c l w) (IsListed c l w)
+listed_decides : (c : ℕ) (l : List Event) (w : EventAction) → Decides (is_listed c l w) (IsListed c l w)
 listed_decides c l w =
     Decides-or (not (writes_cell c w.action)) (has_event l w.event) (Decides-not (writes_cell c w.action) (cell_decides c w.action)) (has_decides l w.event)
 
-pub order_decides : (x : Execution) (ws : List Happening) → Happened x ws → (c : ℕ) (l : List Event) → Decides (orders_cell ws c l) (IsWriteOrder x c l)
+pub order_decides : (x : Execution) (ws : List EventAction) → ListsActions x ws → (c : ℕ) (l : List Event) → Decides (orders_cell ws c l) (IsWriteOrder x c l)
 order_decides x ws h c [] = (λ t. cc, λ o. let e = o.initial_first in cc)
 order_decides x ws h c (e ∷ es) = (there, back)
   where
-    all : Decides (orders_cell ws c (e ∷ es)) ((Initial ≡ e) × (Once es × (((k : ℕ) (f : Event) → slice_get es k ≡ Some f → (v : ℕ) × (action_at x f ≡ Some (Write c v))) × ((k : ℕ) (w : Happening) → slice_get ws k ≡ Some w → IsListed c es w))))
+    all : Decides (orders_cell ws c (e ∷ es)) ((Initial ≡ e) × (Once es × (((k : ℕ) (f : Event) → slice_get es k ≡ Some f → (v : ℕ) × (action_at x f ≡ Some (Write c v))) × ((k : ℕ) (w : EventAction) → slice_get ws k ≡ Some w → IsListed c es w))))
     all =
         Decides-and (same_event Initial e) (no_repeats es && (list_all (is_write ws c) es && list_all (is_listed c es) ws)) (same_decides Initial e)
         (Decides-and (no_repeats es) (list_all (is_write ws c) es && list_all (is_listed c es) ws) (once_decides es) (Decides-and (list_all (is_write ws c) es) (list_all (is_listed c es) ws) (all_decides (is_write ws c) (λ f. (v : ℕ) × (action_at x f ≡ Some (Write c v))) (write_decides x ws h c) es) (all_decides (is_listed c es) (IsListed c es) (listed_decides c es) ws)))
@@ -91,7 +92,7 @@ order_decides x ws h c (e ∷ es) = (there, back)
           initial_first = ap (λ f. f ∷ es) (sym r.0);
           once = r.1.0;
           sound = r.1.1.0;
-          complete = λ f v a. let q = h.complete f (Write c v) a in ⊎_elim (λ n. absurd (n (v, refl))) (λ g. g) (r.1.1.1 q.0 (happening f (Write c v)) q.1);
+          complete = λ f v a. let q = h.complete f (Write c v) a in ⊎_elim (λ n. absurd (n (v, refl))) (λ g. g) (r.1.1.1 q.0 (event_action f (Write c v)) q.1);
         }
 
     back : IsWriteOrder x c (e ∷ es) → orders_cell ws c (e ∷ es) ≡ true
@@ -103,11 +104,11 @@ order_decides x ws h c (e ∷ es) = (there, back)
 -- ---- all lists
 
 -- from a number on, as many lists as there are cells left, each in order
-record InOrder (ws : List Happening) (cells c : ℕ) (ls : List (List Event)) : Type 0 where
+record InOrder (ws : List EventAction) (cells c : ℕ) (ls : List (List Event)) : Type 0 where
   many : c ≤ cells → c + length ls ≡ cells
   each : (n : ℕ) (l : List Event) → slice_get ls n ≡ Some l → orders_cell ws (c + n) l ≡ true
 
-in_order : (ws : List Happening) (cells c : ℕ) (ls : List (List Event)) → first_disorder ws cells c ls ≡ None → InOrder ws cells c ls
+in_order : (ws : List EventAction) (cells c : ℕ) (ls : List (List Event)) → bad_order_from ws cells c ls ≡ None → InOrder ws cells c ls
 in_order ws cells c [] e = record { many = λ l. many (cells_left (nat_lt c cells) e) l; each = λ n l g. absurd (none-some l g) }
   where
     cells_left : (b : Bool) → cond b (Some c) None ≡ None → b ≡ false
@@ -117,7 +118,7 @@ in_order ws cells c [] e = record { many = λ l. many (cells_left (nat_lt c cell
     many : nat_lt c cells ≡ false → c ≤ cells → c + length {A = List Event} [] ≡ cells
     many b l = let g : cells ≤ c = ltb-false c cells b in omega arith
 in_order ws cells c (m ∷ ls) e =
-    let f = cond_none (nat_lt c cells && orders_cell ws c m) (first_disorder ws cells (c + 1) ls) c e in
+    let f = cond_none (nat_lt c cells && orders_cell ws c m) (bad_order_from ws cells (c + 1) ls) c e in
     let p = and_parts (nat_lt c cells) (orders_cell ws c m) f.0 in
     let below : c < cells = ltb-true c cells p.0 in
     let r = in_order ws cells (c + 1) ls f.1 in
@@ -130,14 +131,14 @@ in_order ws cells c (m ∷ ls) e =
         let z : c + 1 + n ≡ c + suc n = omega arith in subst (λ k. orders_cell ws k l ≡ true) z (h n l g)
 
 -- the first number that is out of order: those before it are cells with their orders; it has no list and is a cell, or has a list and is no cell or out of order
-record Disorder (ws : List Happening) (cells c : ℕ) (ls : List (List Event)) (d : ℕ) : Type 0 where
+record FirstBadOrder (ws : List EventAction) (cells c : ℕ) (ls : List (List Event)) (d : ℕ) : Type 0 where
   place : ℕ
   number : d ≡ c + place
   cause : ((place ≡ length ls) × (d < cells)) ⊎ ((l : List Event) × (slice_get ls place ≡ Some l) × ((cells ≤ d) ⊎ (orders_cell ws d l ≡ false)))
   before : (n : ℕ) → n < place → (l : List Event) × (slice_get ls n ≡ Some l) × (c + n < cells) × (orders_cell ws (c + n) l ≡ true)
 
-disorder_on : (ws : List Happening) (cells c : ℕ) (m : List Event) (ls : List (List Event)) (d : ℕ) → c < cells → orders_cell ws c m ≡ true → Disorder ws cells (c + 1) ls d → Disorder ws cells c (m ∷ ls) d
-disorder_on ws cells c m ls d l t r = record {
+first_bad_order_on : (ws : List EventAction) (cells c : ℕ) (m : List Event) (ls : List (List Event)) (d : ℕ) → c < cells → orders_cell ws c m ≡ true → FirstBadOrder ws cells (c + 1) ls d → FirstBadOrder ws cells c (m ∷ ls) d
+first_bad_order_on ws cells c m ls d l t r = record {
   place = suc r.place;
   number = omega (arith, r.number);
   cause = ⊎_elim (λ h. let p = h.0 in inl (omega arith, h.1)) (λ h. inr (h.0, h.1, h.2)) r.cause;
@@ -152,23 +153,23 @@ disorder_on ws cells c m ls d l t r = record {
         let s : c + 1 + n < cells = q.2 in
         (q.0, q.1, omega arith, subst (λ k. orders_cell ws k q.0 ≡ true) z q.3)
 
-disorder : (ws : List Happening) (cells c : ℕ) (ls : List (List Event)) (d : ℕ) → first_disorder ws cells c ls ≡ Some d → Disorder ws cells c ls d
-disorder ws cells c [] d e =
+first_bad_order : (ws : List EventAction) (cells c : ℕ) (ls : List (List Event)) (d : ℕ) → bad_order_from ws cells c ls ≡ Some d → FirstBadOrder ws cells c ls d
+first_bad_order ws cells c [] d e =
     let r = missing (nat_lt c cells) e in
     record { place = 0; number = omega (arith, r.1); cause = inl (refl, (let b : c < cells = ltb-true c cells r.0 in omega (arith, r.1))); before = λ n b. absurd (omega arith) }
   where
     missing : (b : Bool) → cond b (Some c) None ≡ Some d → (b ≡ true) × (c ≡ d)
     missing true e = (refl, same_Some c d e)
     missing false e = absurd (none-some d e)
-disorder ws cells c (m ∷ ls) d e =
+first_bad_order ws cells c (m ∷ ls) d e =
     ⊎_elim
-    (λ h. let p = and_parts (nat_lt c cells) (orders_cell ws c m) h.0 in disorder_on ws cells c m ls d (ltb-true c cells p.0) p.1 (disorder ws cells (c + 1) ls d h.1))
+    (λ h. let p = and_parts (nat_lt c cells) (orders_cell ws c m) h.0 in first_bad_order_on ws cells c m ls d (ltb-true c cells p.0) p.1 (first_bad_order ws cells (c + 1) ls d h.1))
     (λ h. record { place = 0; number = omega (arith, h.1); cause = inr (m, refl, ⊎_elim (λ b. let g : cells ≤ c = ltb-false c cells b in inl (omega (arith, h.1))) (λ b. inr (subst (λ n. orders_cell ws n m ≡ false) h.1 b)) (and_cases (nat_lt c cells) (orders_cell ws c m) h.0)); before = λ n b. absurd (omega arith) })
-    (cond_either (nat_lt c cells && orders_cell ws c m) (first_disorder ws cells (c + 1) ls) c d e)
+    (cond_either (nat_lt c cells && orders_cell ws c m) (bad_order_from ws cells (c + 1) ls) c d e)
 
 -- ---- of an execution
 
-pub orders_none : (s : Shape) (x : Execution) (ws : List Happening) (cells : ℕ) → cells ≡ length s.initials → Happened x ws → first_disorder ws cells 0 x.co ≡ None → (n : ℕ) → HasOrder s x n
+pub orders_none : (s : Shape) (x : Execution) (ws : List EventAction) (cells : ℕ) → cells ≡ length s.initials → ListsActions x ws → bad_order_from ws cells 0 x.co ≡ None → (n : ℕ) → HasOrder s x n
 orders_none s x ws cells i h e n =
     let r = in_order ws cells 0 x.co e in
     let many : 0 + length x.co ≡ cells = r.many (omega arith) in
@@ -177,11 +178,11 @@ orders_none s x ws cells i h e n =
       no_more = λ b. slice_get_past x.co n (omega arith);
     }
 
-pub orders_some : (s : Shape) (x : Execution) (ws : List Happening) (cells d : ℕ) → cells ≡ length s.initials → Happened x ws → first_disorder ws cells 0 x.co ≡ Some d → FirstNumber (HasOrder s x) d
+pub orders_some : (s : Shape) (x : Execution) (ws : List EventAction) (cells d : ℕ) → cells ≡ length s.initials → ListsActions x ws → bad_order_from ws cells 0 x.co ≡ Some d → FirstNumber (HasOrder s x) d
 orders_some s x ws cells d i h e = record { broken = broken; before = before }
   where
-    first : Disorder ws cells 0 x.co d
-    first = disorder ws cells 0 x.co d e
+    first : FirstBadOrder ws cells 0 x.co d
+    first = first_bad_order ws cells 0 x.co d e
 
     number : d ≡ first.place
     number = omega (arith, first.number)

@@ -4,9 +4,7 @@ use Rattle.std.specs.Prelude.{slice_get, nat_eq}
 use Rattle.std.proofs.lemmas.Bool.{cases_Bool, eqb-true, eqb-false, eq-eqb, ne_eqb, cond-true, cond-false}
 use Rattle.std.proofs.lemmas.Option.{none-some, same_Some}
 use Rattle.dg_base.specs.declared.Place.{Place}
-use Rattle.axiom_model.specs.declared.MemoryModel.{MemoryModel}
 use Rattle.axiom_model.specs.declared.ThreadPart.{ThreadPart}
-use Rattle.axiom_model.specs.declared.Candidate.{Candidate}
 use Rattle.axiom_model.specs.Failing.{Run, failed_by}
 use Rattle.c_check.specs.declared.checked.Checked.{Checked}
 use Rattle.run_model.specs.declared.state.Halt.TheVariants.{Over, Short}
@@ -19,7 +17,7 @@ use Rattle.exec_check.specs.declared.Reject.TheVariants.{ScriptShort, ScriptLong
 use Rattle.exec_check.specs.First.{EachThread, FirstThread}
 use Rattle.exec_check.specs.Running.{run_told, run_by, runs_of}
 use Rattle.exec_check.specs.Conditions.{RunsWell, HasThreads}
-use Rattle.exec_check.specs.Broken.{IsFirstBroken}
+use Rattle.exec_check.specs.Broken.{ThreadsBreak}
 use Rattle.exec_check.specs.ThreadTests.{wrong_run, first_wrong, failing_at, first_failing, told_failing}
 use Rattle.exec_check.proofs.Shaped.{told_is}
 use Rattle.exec_check.proofs.Listed.{or_else-none, or_else-some}
@@ -93,15 +91,15 @@ first_is p (u ∷ ps) e g =
     (λ w. first_is_on p u ps e (not_wrong u (run_told p u) w.0) (first_is p ps e w.1))
     (or_else-some (wrong_run u (run_told p u)) (first_wrong p ps) e g)
 
-pub wrong_is_broken : (p : Checked) (m : MemoryModel) (c : Candidate) (e : Reject) → HasThreads p c → first_wrong p c.threads ≡ Some e → IsFirstBroken p m c e
-wrong_is_broken p m c e h g =
-    let f = first_is p c.threads e g in
+pub wrong_is_broken : (p : Checked) (ps : List ThreadPart) (e : Reject) → HasThreads p ps → first_wrong p ps ≡ Some e → ThreadsBreak p ps e
+wrong_is_broken p ps e h g =
+    let f = first_is p ps e g in
     let w = wrong_cases f.part (run_told p f.part) e f.wrong in
-    w.cases (IsFirstBroken p m c) (λ none. (h, (f.part, first f (λ r. none-some r.0 (sym none ∙ r.1)), refl, none)))
+    w.cases (ThreadsBreak p ps) (λ none. (h, (f.part, first f (λ r. none-some r.0 (sym none ∙ r.1)), refl, none)))
     (λ r is n. (h, (f.part, first f (λ q. n (subst (λ z. z.used ≡ length f.part.script) (same_Some q.0 r (sym q.1 ∙ is)) q.2)), refl, (r, is, n))))
     (λ r is n b. (h, (f.part, first f (λ q. let bad : r.bad ≡ false = subst (λ z. z.bad ≡ false) (same_Some q.0 r (sym q.1 ∙ is)) q.3 in cc), refl, (r, is, n, b))))
   where
-    first : (f : FirstIs p c.threads e) → (RunsWell p f.place f.part → ⊥) → FirstThread (RunsWell p) c.threads f.part
+    first : (f : FirstIs p ps e) → (RunsWell p f.place f.part → ⊥) → FirstThread (RunsWell p) ps f.part
     first f n = record { place = f.place; there = f.there; broken = n; before = f.before }
 
 -- ---- the first that fails

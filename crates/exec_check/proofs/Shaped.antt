@@ -29,6 +29,10 @@ functions_are p = ap (λ (s : Shape). s.functions) (shape_is p)
 pub functions_shaped : (p : Checked) → IsChecked p → length p.functions ≡ (shape p).functions
 functions_shaped p h = ap length h.functions ∙ length-map (functions_of p.program.items) (λ (f : Function). f.name) ∙ sym (functions_are p)
 
+-- a checked program names all its functions
+pub functions_counted : (p : Checked) → IsChecked p → length p.functions ≡ length (functions_of p.program.items)
+functions_counted p h = functions_shaped p h ∙ functions_are p
+
 pub main_shaped : (p : Checked) → IsChecked p → unwrap_or (first_named (λ (m : Name). m) 0 p.functions (codes "main")) 0 ≡ (shape p).main
 main_shaped p h =
     ap (λ l. unwrap_or (first_named (λ (m : Name). m) 0 l (codes "main")) 0) h.functions

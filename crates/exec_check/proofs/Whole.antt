@@ -4,27 +4,28 @@ use Rattle.std.specs.Prelude.{slice_get, ◌≢◌, get_or, unwrap_or, All, AllP
 use Rattle.std.specs.List.{AllZip}
 use Rattle.std.proofs.lemmas.Bool.{cases_order}
 use Rattle.std.proofs.lemmas.Option.{none-some, same_Some, slice_get_within, slice_get_past, slice_get-get_or, get_or_from_slice_get}
+use Rattle.dg_base.proofs.Lists.{get_map, get_from_map}
 use Rattle.axiom_model.specs.declared.MemoryModel.{MemoryModel}
 use Rattle.axiom_model.specs.declared.Action.{Action}
 use Rattle.axiom_model.specs.declared.Action.TheVariants.{Read, Write, Open, Close, Fence, Create, Join, Start, End}
 use Rattle.axiom_model.specs.declared.Event.{Event}
+use Rattle.axiom_model.specs.declared.Event.TheVariants.{Initial, At}
 use Rattle.axiom_model.specs.declared.RfPair.{RfPair}
 use Rattle.axiom_model.specs.declared.ThreadPart.{ThreadPart}
 use Rattle.axiom_model.specs.declared.Candidate.{Candidate}
 use Rattle.axiom_model.specs.Execution.{Thread, Execution, action_at}
 use Rattle.axiom_model.specs.WellMade.{Shape, WellMade, IsWriteOrder}
 use Rattle.axiom_model.specs.Models.{Consistent}
-use Rattle.axiom_model.specs.Failing.{Run, RunsTo, threads_of, FailsFirst}
+use Rattle.axiom_model.specs.Failing.{Run, RunsTo, HasWords, threads_of, FailsFirst}
 use Rattle.c_check.specs.declared.checked.Checked.{Checked}
 use Rattle.consistency.specs.declared.ThreadActions.{ThreadActions}
 use Rattle.consistency.specs.Seen.{thread_seen, execution_seen}
-use Rattle.run_model.specs.Threads.{thread_run, ProgramFails}
+use Rattle.run_model.specs.Threads.{thread_run, ProgramAllows, ProgramFails}
 use Rattle.exec_check.specs.declared.Failing.{Failing}
 use Rattle.exec_check.specs.First.{EachThread}
-use Rattle.exec_check.specs.Running.{run_by, runs_of, no_run, execution_in, shape}
+use Rattle.exec_check.specs.Running.{run_by, runs_of, no_run, execution_in, acting, shape}
 use Rattle.exec_check.specs.Conditions.{IsAboveAll, RunsWell, HasItsThread, HasItsSource, JoinsAnEnded, HasThreads, HasRuns, HasCreates, HasChildren, HasSources, HasOrders, IsExecution}
 use Rattle.exec_check.specs.ThreadTests.{seen_by, told_failing}
-use Rattle.exec_check.proofs.Listed.{at_image, image_at}
 use Rattle.exec_check.proofs.Shaped.{shape_is, told_is}
 use Rattle.exec_check.proofs.Ran.{told, fails_somehow}
 
@@ -35,10 +36,10 @@ threads_seen p [] = refl
 threads_seen p (t ∷ ps) = ap (λ l. seen_by p t ∷ l) (threads_seen p ps)
 
 pub thread_at : (p : Checked) (c : Candidate) (k : ℕ) (t : ThreadPart) → slice_get c.threads k ≡ Some t → slice_get (execution_in p c).threads k ≡ Some (seen_by p t)
-thread_at p c k t e = ap (λ l. slice_get l k) (threads_seen p c.threads) ∙ at_image (seen_by p) c.threads k t e
+thread_at p c k t e = ap (λ l. slice_get l k) (threads_seen p c.threads) ∙ get_map (seen_by p) c.threads k t e
 
 pub part_at : (p : Checked) (c : Candidate) (k : ℕ) (u : Thread) → slice_get (execution_in p c).threads k ≡ Some u → (t : ThreadPart) × (slice_get c.threads k ≡ Some t) × (seen_by p t ≡ u)
-part_at p c k u e = image_at (seen_by p) c.threads k u (ap (λ l. slice_get l k) (sym (threads_seen p c.threads)) ∙ e)
+part_at p c k u e = get_from_map (seen_by p) c.threads k u (ap (λ l. slice_get l k) (sym (threads_seen p c.threads)) ∙ e)
 
 all_threads : (p : Checked) (c : Candidate) (P : Thread → Type 0) → EachThread (λ k t. P (seen_by p t)) c.threads → All P (execution_in p c).threads
 all_threads p c P h k d b =
@@ -50,6 +51,11 @@ pub each_part : (p : Checked) (c : Candidate) (P : Thread → Type 0) → All P 
 each_part p c P h k t e =
     let there = thread_at p c k t e in
     subst P (get_or_from_slice_get (execution_in p c).threads k (seen_by p t) (seen_by p t) there) (h k (seen_by p t) (slice_get_within (execution_in p c).threads k (seen_by p t) there))
+
+-- threads alone act as in the candidate
+pub acts_alone : (p : Checked) (c : Candidate) (e : Event) → action_at (execution_in p c) e ≡ action_at (acting p c.threads) e
+acts_alone p c Initial = refl
+acts_alone p c (At h i) = refl
 
 -- a thread that runs well has its run
 pub run_is : (p : Checked) (k : ℕ) (t : ThreadPart) (w : RunsWell p k t) → run_by p t ≡ w.0
@@ -88,8 +94,8 @@ well_made p c h =
       rising = pairs_rise p c threads.rising;
       known = all_threads p c (λ t. (t.function < (shape p).functions) × (t.handle < 2 ^ 24)) threads.known;
       none_bad = all_threads p c (λ t. t.bad ≡ false) (λ k t e. not_bad p k t (runs.runs k t e));
-      created = all_threads p c (λ t. t.handle ≢ 0 → (e : Event) × (action_at (execution_in p c) e ≡ Some (Create t.handle t.function t.arg))) creates.created;
-      creates = λ e g f v a. children.children e (Create g f v) a;
+      created = all_threads p c (λ t. t.handle ≢ 0 → (e : Event) × (action_at (execution_in p c) e ≡ Some (Create t.handle t.function t.arg))) (λ k t e n. let r = creates.created k t e n in (r.0, acts_alone p c r.0 ∙ r.1));
+      creates = λ e g f v a. children.children e (Create g f v) (sym (acts_alone p c e) ∙ a);
       reads = λ e g v a. (sources.sources e).source (Read g v) a;
       readers = λ k d b. (sources.sources (get_or c.rf k d).reader).reader k (get_or c.rf k d) (slice_get-get_or c.rf k d b) refl;
       lists = as_many p c orders;
@@ -103,15 +109,24 @@ whole p (t ∷ ps) h =
     let w = h 0 t refl in
     ((sym (told_is p t) ∙ w.1 ∙ ap Some (sym (run_is p 0 t w)), ap (λ (r : Run). r.used) (run_is p 0 t w) ∙ w.2), whole p ps (λ k u e. h (suc k) u e))
 
+-- an execution that the model allows, in the words of the model
+pub program_allows : (p : Checked) (m : MemoryModel) (c : Candidate) → IsExecution p c → Consistent m (execution_in p c) → ProgramAllows p m c
+program_allows p m c h ok =
+    let runs = h.orders.sources.children.creates.runs in
+    record {
+      threads = runs_of p c.threads;
+      words = runs.words;
+      whole = whole p c.threads runs.runs;
+      well_made = subst (λ s. WellMade s (execution_in p c)) (shape_is p) (well_made p c h);
+      consistent = ok;
+    }
+
 pub program_fails : (p : Checked) (m : MemoryModel) (c : Candidate) (f : Failing) → IsExecution p c → Consistent m (execution_in p c) → told_failing p c.threads ≡ Some f → ProgramFails p m c
 program_fails p m c f h ok e =
     let r = (told p c.threads f e).first in
     record {
-      threads = runs_of p c.threads;
-      whole = whole p c.threads h.orders.sources.children.creates.runs.runs;
-      well_made = subst (λ s. WellMade s (execution_in p c)) (shape_is p) (well_made p c h);
-      consistent = ok;
-      fails = (r.place, run_by p r.part, f.place, at_image (run_by p) c.threads r.place r.part r.there, fails_somehow f.bound (run_by p r.part) f.place r.fails);
+      allowed = program_allows p m c h ok;
+      fails = (r.place, run_by p r.part, f.place, get_map (run_by p) c.threads r.place r.part r.there, fails_somehow f.bound (run_by p r.part) f.place r.fails);
     }
 
 pub first_to_fail : (p : Checked) (c : Candidate) (f : Failing) → told_failing p c.threads ≡ Some f → FailsFirst c (runs_of p c.threads) f.handle f.place f.bound
@@ -123,7 +138,7 @@ first_to_fail p c f e =
       part = r.part;
       run = run_by p r.part;
       is_part = r.there;
-      is_run = at_image (run_by p) c.threads r.place r.part r.there;
+      is_run = get_map (run_by p) c.threads r.place r.part r.there;
       handle_is = r.handle_is;
       fails = r.fails;
       not_before = r.before;
@@ -132,7 +147,7 @@ first_to_fail p c f e =
 
 -- ---- the other way
 
-pub has_threads : (p : Checked) (c : Candidate) → WellMade (shape p) (execution_in p c) → HasThreads p c
+pub has_threads : (p : Checked) (c : Candidate) → WellMade (shape p) (execution_in p c) → HasThreads p c.threads
 has_threads p c w = record {
   main = let m = w.has_main in let q = part_at p c m.0 m.1 m.2 in (m.0, q.0, q.1, ap (λ (z : Thread). z.handle) q.2 ∙ m.3, ap (λ (z : Thread). z.function) q.2 ∙ m.4.0, ap (λ (z : Thread). z.arg) q.2 ∙ m.4.1);
   rising = rising;
@@ -149,16 +164,16 @@ has_threads p c w = record {
         let second : (get_or x.threads k d).handle ≡ t.handle = ap (λ (z : Thread). z.handle) (get_or_from_slice_get x.threads k d d there) in
         omega arith
 
-child_at : (s : Shape) (x : Execution) → WellMade s x → (e : Event) (a : Action) → action_at x e ≡ Some a → HasItsThread x e a
-child_at s x w e (Create h f v) g = w.creates e h f v g
-child_at s x w e (Read c v) g = tt
-child_at s x w e (Write c v) g = tt
-child_at s x w e Open g = tt
-child_at s x w e Close g = tt
-child_at s x w e Fence g = tt
-child_at s x w e (Join h) g = tt
-child_at s x w e Start g = tt
-child_at s x w e End g = tt
+child_at : (p : Checked) (c : Candidate) → WellMade (shape p) (execution_in p c) → (e : Event) (a : Action) → action_at (execution_in p c) e ≡ Some a → HasItsThread (acting p c.threads) e a
+child_at p c w e (Create h f v) g = w.creates e h f v g
+child_at p c w e (Read d v) g = tt
+child_at p c w e (Write d v) g = tt
+child_at p c w e Open g = tt
+child_at p c w e Close g = tt
+child_at p c w e Fence g = tt
+child_at p c w e (Join h) g = tt
+child_at p c w e Start g = tt
+child_at p c w e End g = tt
 
 source_at : (s : Shape) (x : Execution) → WellMade s x → (e : Event) (a : Action) → action_at x e ≡ Some a → HasItsSource s x e a
 source_at s x w e (Read c v) g = w.reads e c v g
@@ -182,12 +197,13 @@ join_at s x w e Fence g = tt
 join_at s x w e Start g = tt
 join_at s x w e End g = tt
 
-pub is_execution : (p : Checked) (c : Candidate) → EachThread (RunsWell p) c.threads → WellMade (shape p) (execution_in p c) → IsExecution p c
-is_execution p c r w =
+pub is_execution : (p : Checked) (c : Candidate) → HasWords c → EachThread (RunsWell p) c.threads → WellMade (shape p) (execution_in p c) → IsExecution p c
+is_execution p c n r w =
     let x = execution_in p c in
-    let runs : HasRuns p c = record { threads = has_threads p c w; runs = r } in
-    let creates : HasCreates p c = record { runs = runs; created = each_part p c (λ t. t.handle ≢ 0 → (e : Event) × (action_at x e ≡ Some (Create t.handle t.function t.arg))) w.created } in
-    let children : HasChildren p c = record { creates = creates; children = child_at (shape p) x w } in
+    let runs : HasRuns p c.threads = record { threads = has_threads p c w; words = n; runs = r } in
+    let created = each_part p c (λ t. t.handle ≢ 0 → (e : Event) × (action_at x e ≡ Some (Create t.handle t.function t.arg))) w.created in
+    let creates : HasCreates p c.threads = record { runs = runs; created = λ k t e d. let q = created k t e d in (q.0, sym (acts_alone p c q.0) ∙ q.1) } in
+    let children : HasChildren p c.threads = record { creates = creates; children = λ e a g. child_at p c w e a (acts_alone p c e ∙ g) } in
     let sources : HasSources p c = record { children = children; sources = λ e. record { source = source_at (shape p) x w e; reader = λ k q g is. reads k q g e is } } in
     let orders : HasOrders p c = record { sources = sources; orders = λ n. record { of_cell = λ b. let m = w.lists in (get_or c.co n [], slice_get-get_or c.co n [] (omega arith), w.orders n (get_or c.co n []) (slice_get-get_or c.co n [] (omega arith))); no_more = λ b. let m = w.lists in slice_get_past c.co n (omega arith) } } in
     record { orders = orders; joins = join_at (shape p) x w }

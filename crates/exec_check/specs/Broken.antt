@@ -1,5 +1,5 @@
 -- The first condition that a candidate breaks, and where it is first broken.
-use Rattle.std.specs.Prelude.{◌≡◌, ◌≢◌, ℕ, List, true, Some, None, length, slice_get}
+use Rattle.std.specs.Prelude.{◌≡◌, ◌≢◌, ℕ, List, [], true, Some, None, length, slice_get}
 use Rattle.axiom_model.specs.declared.Action.TheVariants.{Create}
 use Rattle.axiom_model.specs.declared.Event.{Event}
 use Rattle.axiom_model.specs.declared.MemoryModel.{MemoryModel}
@@ -12,10 +12,11 @@ use Rattle.c_check.specs.declared.checked.Checked.{Checked}
 use Rattle.consistency.specs.declared.Inconsistent.{Inconsistent}
 use Rattle.consistency.specs.declared.Inconsistent.TheVariants as inconsistent
 use Rattle.consistency.specs.Evidence.{IsEvidence}
+use Rattle.run_model.specs.Threads.{ProgramFails}
 use Rattle.exec_check.specs.declared.Reject.{Reject}
 use Rattle.exec_check.specs.declared.Reject.TheVariants as reject
 use Rattle.exec_check.specs.First.{EachThread, FirstThread, FirstHandle, FirstEvent, FirstNumber}
-use Rattle.exec_check.specs.Running.{run_told, runs_of, execution_in, shape}
+use Rattle.exec_check.specs.Running.{run_told, runs_of, execution_in, acting, shape}
 use Rattle.exec_check.specs.Conditions.{HasMain, IsAboveAll, IsKnown, RunsWell, IsCreated, AtAction, HasItsThread, IsSourced, HasOrder, JoinsAnEnded, HasThreads, HasRuns, HasCreates, HasChildren, HasSources, HasOrders, IsExecution}
 
 -- the run needs a number more than the script has
@@ -46,18 +47,24 @@ Forbids p m c i = IsExecution p c × IsEvidence m (execution_in p c) i
 abbrev pub NoneFails : List Run → Type 0
 NoneFails rs = (k : ℕ) (r : Run) → slice_get rs k ≡ Some r → r.failed ≡ None
 
--- The first broken condition: those before it hold, and this is where it is first broken. Want of memory tells nothing.
+-- The first broken condition of threads alone: those before it hold, and this is where it is first broken. Want of memory tells
+-- nothing, and nothing else is told of threads alone.
+abbrev pub ThreadsBreak : Checked → List ThreadPart → Reject → Type 0
+ThreadsBreak p ts reject.MainMissing = ¬ HasMain (shape p) ts
+ThreadsBreak p ts (reject.ThreadTwice h) = HasMain (shape p) ts × FirstHandle (IsAboveAll ts) ts h
+ThreadsBreak p ts (reject.UnknownThread h) = HasMain (shape p) ts × EachThread (IsAboveAll ts) ts × FirstHandle (IsKnown (shape p)) ts h
+ThreadsBreak p ts (reject.ScriptShort h) = HasThreads p ts × FirstRun p (IsShort p) ts h
+ThreadsBreak p ts (reject.ScriptLong h) = HasThreads p ts × FirstRun p (IsLong p) ts h
+ThreadsBreak p ts (reject.BadRun h) = HasThreads p ts × FirstRun p (IsBad p) ts h
+ThreadsBreak p ts (reject.NoCreate h) = HasRuns p ts × FirstHandle (IsCreated (acting p ts)) ts h
+ThreadsBreak p ts (reject.NoThread h) = HasCreates p ts × FirstChild (acting p ts) h
+ThreadsBreak p ts reject.OutOfMemory = Unit {0}
+ThreadsBreak p ts _ = ⊥
+
+-- The first broken condition of a candidate: of its threads alone, or behind these of its sources, orders and joins, of the model,
+-- or that none fails.
 abbrev pub IsFirstBroken : Checked → MemoryModel → Candidate → Reject → Type 0
-IsFirstBroken p m c reject.MainMissing = ¬ HasMain (shape p) c.threads
-IsFirstBroken p m c (reject.ThreadTwice h) = HasMain (shape p) c.threads × FirstHandle (IsAboveAll c.threads) c.threads h
-IsFirstBroken p m c (reject.UnknownThread h) =
-    HasMain (shape p) c.threads × EachThread (IsAboveAll c.threads) c.threads × FirstHandle (IsKnown (shape p)) c.threads h
-IsFirstBroken p m c (reject.ScriptShort h) = HasThreads p c × FirstRun p (IsShort p) c.threads h
-IsFirstBroken p m c (reject.ScriptLong h) = HasThreads p c × FirstRun p (IsLong p) c.threads h
-IsFirstBroken p m c (reject.BadRun h) = HasThreads p c × FirstRun p (IsBad p) c.threads h
-IsFirstBroken p m c (reject.NoCreate h) = HasRuns p c × FirstHandle (IsCreated (execution_in p c)) c.threads h
-IsFirstBroken p m c (reject.NoThread h) = HasCreates p c × FirstChild (execution_in p c) h
-IsFirstBroken p m c (reject.BadSource e) = HasChildren p c × FirstEvent (IsSourced (shape p) (execution_in p c)) e
+IsFirstBroken p m c (reject.BadSource e) = HasChildren p c.threads × FirstEvent (IsSourced (shape p) (execution_in p c)) e
 IsFirstBroken p m c (reject.BadOrder n) = HasSources p c × FirstNumber (HasOrder (shape p) (execution_in p c)) n
 IsFirstBroken p m c (reject.BadJoin e) =
     HasOrders p c × FirstEvent (AtAction (execution_in p c) (JoinsAnEnded (execution_in p c))) e
@@ -65,4 +72,22 @@ IsFirstBroken p m c (reject.LocalCycle l) = Forbids p m c (inconsistent.LocalCyc
 IsFirstBroken p m c (reject.GlobalCycle l) = Forbids p m c (inconsistent.GlobalCycle l)
 IsFirstBroken p m c (reject.BlockCycle l) = Forbids p m c (inconsistent.BlockCycle l)
 IsFirstBroken p m c reject.NotFailing = IsExecution p c × Consistent m (execution_in p c) × NoneFails (runs_of p c.threads)
-IsFirstBroken p m c reject.OutOfMemory = Unit {0}
+IsFirstBroken p m c e = ThreadsBreak p c.threads e
+
+-- ---- laws
+
+-- the answer, with any cycle that it shows left out
+abbrev pub without_cycle : Reject → Reject
+without_cycle (reject.LocalCycle l) = reject.LocalCycle []
+without_cycle (reject.GlobalCycle l) = reject.GlobalCycle []
+without_cycle (reject.BlockCycle l) = reject.BlockCycle []
+without_cycle e = e
+
+-- a failing execution breaks nothing
+abbrev pub FailingBreaksNothing : Type 0
+FailingBreaksNothing = (p : Checked) (m : MemoryModel) (c : Candidate) (e : Reject) → ProgramFails p m c → IsFirstBroken p m c e → e ≡ reject.OutOfMemory
+
+-- two first broken conditions of one candidate are one, but for the cycle shown; want of memory is none
+abbrev pub OneFirstBroken : Type 0
+OneFirstBroken = (p : Checked) (m : MemoryModel) (c : Candidate) (e f : Reject)
+    → e ≢ reject.OutOfMemory → f ≢ reject.OutOfMemory → IsFirstBroken p m c e → IsFirstBroken p m c f → without_cycle e ≡ without_cycle f

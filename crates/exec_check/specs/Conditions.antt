@@ -8,10 +8,10 @@ use Rattle.axiom_model.specs.declared.ThreadPart.{ThreadPart}
 use Rattle.axiom_model.specs.declared.Candidate.{Candidate}
 use Rattle.axiom_model.specs.Execution.{Execution, action_at}
 use Rattle.axiom_model.specs.WellMade.{Shape, SomeThread, ReadsOnce, IsWriteOrder}
-use Rattle.axiom_model.specs.Failing.{Run}
+use Rattle.axiom_model.specs.Failing.{Run, HasWords}
 use Rattle.c_check.specs.declared.checked.Checked.{Checked}
 use Rattle.exec_check.specs.First.{EachThread}
-use Rattle.exec_check.specs.Running.{run_told, execution_in, shape}
+use Rattle.exec_check.specs.Running.{run_told, execution_in, alone, acting, shape}
 
 -- ---- each condition
 
@@ -67,27 +67,32 @@ abbrev pub JoinsAnEnded : Execution → Event → Action → Type 0
 JoinsAnEnded x e (Join h) = (h ≢ 0) × SomeThread x h (λ t. t.ended ≡ true)
 JoinsAnEnded x e _ = Unit {0}
 
--- ---- one after the other
+-- ---- one after the other, of threads alone
 
-pub record HasThreads (p : Checked) (c : Candidate) : Type 0 where
-  pub main : HasMain (shape p) c.threads
-  pub rising : EachThread (IsAboveAll c.threads) c.threads
-  pub known : EachThread (IsKnown (shape p)) c.threads
+-- main is there, handles rise, functions and handles are known
+pub record HasThreads (p : Checked) (ts : List ThreadPart) : Type 0 where
+  pub main : HasMain (shape p) ts
+  pub rising : EachThread (IsAboveAll ts) ts
+  pub known : EachThread (IsKnown (shape p)) ts
 
-pub record HasRuns (p : Checked) (c : Candidate) : Type 0 where
-  pub threads : HasThreads p c
-  pub runs : EachThread (RunsWell p) c.threads
+-- each runs well; the numbers of scripts are words, which in the code is their type
+pub record HasRuns (p : Checked) (ts : List ThreadPart) : Type 0 where
+  pub threads : HasThreads p ts
+  pub words : HasWords (alone ts)
+  pub runs : EachThread (RunsWell p) ts
 
-pub record HasCreates (p : Checked) (c : Candidate) : Type 0 where
-  pub runs : HasRuns p c
-  pub created : EachThread (IsCreated (execution_in p c)) c.threads
+pub record HasCreates (p : Checked) (ts : List ThreadPart) : Type 0 where
+  pub runs : HasRuns p ts
+  pub created : EachThread (IsCreated (acting p ts)) ts
 
-pub record HasChildren (p : Checked) (c : Candidate) : Type 0 where
-  pub creates : HasCreates p c
-  pub children : (e : Event) → AtAction (execution_in p c) (HasItsThread (execution_in p c)) e
+pub record HasChildren (p : Checked) (ts : List ThreadPart) : Type 0 where
+  pub creates : HasCreates p ts
+  pub children : (e : Event) → AtAction (acting p ts) (HasItsThread (acting p ts)) e
+
+-- ---- and of a candidate
 
 pub record HasSources (p : Checked) (c : Candidate) : Type 0 where
-  pub children : HasChildren p c
+  pub children : HasChildren p c.threads
   pub sources : (e : Event) → IsSourced (shape p) (execution_in p c) e
 
 pub record HasOrders (p : Checked) (c : Candidate) : Type 0 where

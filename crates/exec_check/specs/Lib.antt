@@ -3,5 +3,6 @@ pub mod Running
 pub mod Conditions
 pub mod Broken
 pub mod ThreadTests
-pub mod Happenings
+pub mod EventActions
 pub mod ActionTests
+pub mod Done

@@ -27,6 +27,14 @@ runs_of p ts = map (run_by p) ts
 abbrev pub execution_in : Checked → Candidate → Execution
 execution_in p c = execution_of c (runs_of p c.threads)
 
+-- threads alone, without sources and orders
+abbrev pub alone : List ThreadPart → Candidate
+alone ts = record { threads = ts; rf = []; co = [] }
+
+-- what the memory models see of them
+abbrev pub acting : Checked → List ThreadPart → Execution
+acting p ts = execution_in p (alone ts)
+
 -- what the memory models see of a program
 unfoldable pub shape : Checked → Shape
 shape p = shape_of p.program

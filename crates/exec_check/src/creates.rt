@@ -5,15 +5,14 @@ ghost use Rattle.std.specs.List.{list_any};
 ghost use Rattle.exec_check.specs.ThreadTests.{first_not, handle_of};
 ghost use Rattle.exec_check.specs.ActionTests as tests;
 
-use crate::happenings::Happening;
+use crate::event_actions::EventAction;
 use axiom_model::{Action, ThreadPart};
-use consistency::ThreadActions;
 
 // Whether the action creates the thread.
-fn creates(thread: &ThreadPart, happening: &Happening) -> bool
-    ensures { result ≡ tests.creates thread.now happening.now }
+fn creates(thread: &ThreadPart, event_action: &EventAction) -> bool
+    ensures { result ≡ tests.creates thread.now event_action.now }
 {
-    match happening.action {
+    match event_action.action {
         Action::Create {
             handle,
             function,
@@ -24,14 +23,14 @@ fn creates(thread: &ThreadPart, happening: &Happening) -> bool
 }
 
 // Whether the thread is main, or some action creates it.
-fn is_created(happenings: &[Happening], thread: &ThreadPart) -> bool
-    ensures { result ≡ tests.is_created happenings.now thread.now }
+fn is_created(event_actions: &[EventAction], thread: &ThreadPart) -> bool
+    ensures { result ≡ tests.is_created event_actions.now thread.now }
 {
     if thread.handle == 0 {
         return true;
     }
-    for happening in happenings {
-        if creates(thread, happening) {
+    for event_action in event_actions {
+        if creates(thread, event_action) {
             return true;
         }
     }
@@ -39,11 +38,11 @@ fn is_created(happenings: &[Happening], thread: &ThreadPart) -> bool
 }
 
 /// The handle of the first thread that is not main and that no action creates.
-pub(crate) fn not_created(happenings: &[Happening], threads: &[ThreadPart]) -> Option<u32>
-    ensures { result ≡ first_not (tests.is_created happenings.now) handle_of threads.now }
+pub(crate) fn not_created(event_actions: &[EventAction], threads: &[ThreadPart]) -> Option<u32>
+    ensures { result ≡ first_not (tests.is_created event_actions.now) handle_of threads.now }
 {
     for thread in threads {
-        if !is_created(happenings, thread) {
+        if !is_created(event_actions, thread) {
             return Some(thread.handle);
         }
     }
@@ -51,7 +50,7 @@ pub(crate) fn not_created(happenings: &[Happening], threads: &[ThreadPart]) -> O
 }
 
 // Whether there is a thread with this handle.
-fn has_handle(threads: &[ThreadActions], handle: u32) -> bool
+fn has_handle(threads: &[ThreadPart], handle: u32) -> bool
     ensures { result ≡ list_any (tests.has_handle handle) threads.now }
 {
     for thread in threads {
@@ -63,32 +62,32 @@ fn has_handle(threads: &[ThreadActions], handle: u32) -> bool
 }
 
 // Whether the thread is there, if the action creates one.
-fn has_child(threads: &[ThreadActions], happening: &Happening) -> bool
-    ensures { result ≡ tests.has_child threads.now happening.now }
+fn has_child(threads: &[ThreadPart], event_action: &EventAction) -> bool
+    ensures { result ≡ tests.has_child threads.now event_action.now }
 {
-    match happening.action {
+    match event_action.action {
         Action::Create { handle, .. } => has_handle(threads, handle),
         _ => true,
     }
 }
 
 // The handle of the thread that the action creates.
-fn child_of(happening: &Happening) -> u32
-    ensures { result ≡ tests.child_of happening.now }
+fn child_of(event_action: &EventAction) -> u32
+    ensures { result ≡ tests.child_of event_action.now }
 {
-    match happening.action {
+    match event_action.action {
         Action::Create { handle, .. } => handle,
         _ => 0,
     }
 }
 
 /// The handle of the first created thread that is not there.
-pub(crate) fn missing_child(happenings: &[Happening], threads: &[ThreadActions]) -> Option<u32>
-    ensures { result ≡ first_not (tests.has_child threads.now) tests.child_of happenings.now }
+pub(crate) fn missing_child(event_actions: &[EventAction], threads: &[ThreadPart]) -> Option<u32>
+    ensures { result ≡ first_not (tests.has_child threads.now) tests.child_of event_actions.now }
 {
-    for happening in happenings {
-        if !has_child(threads, happening) {
-            return Some(child_of(happening));
+    for event_action in event_actions {
+        if !has_child(threads, event_action) {
+            return Some(child_of(event_action));
         }
     }
     None

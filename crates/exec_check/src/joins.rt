@@ -3,10 +3,10 @@
 ghost use Rattle.std.specs.Prelude.{◌≡◌};
 ghost use Rattle.std.specs.List.{list_any};
 ghost use Rattle.exec_check.specs.ThreadTests.{first_not};
-ghost use Rattle.exec_check.specs.Happenings.{event_of};
+ghost use Rattle.exec_check.specs.EventActions.{event_of};
 ghost use Rattle.exec_check.specs.ActionTests as tests;
 
-use crate::happenings::Happening;
+use crate::event_actions::EventAction;
 use axiom_model::{Action, Event};
 use consistency::ThreadActions;
 
@@ -23,22 +23,22 @@ fn has_ended(threads: &[ThreadActions], handle: u32) -> bool
 }
 
 // Whether the action, if it is a Join, waits for a thread other than main that came to its end.
-fn joins_ended(threads: &[ThreadActions], happening: &Happening) -> bool
-    ensures { result ≡ tests.joins_ended threads.now happening.now }
+fn joins_ended(threads: &[ThreadActions], event_action: &EventAction) -> bool
+    ensures { result ≡ tests.joins_ended threads.now event_action.now }
 {
-    match happening.action {
+    match event_action.action {
         Action::Join { handle } => handle != 0 && has_ended(threads, handle),
         _ => true,
     }
 }
 
 /// The first Join that waits for main, or for no thread that came to its end.
-pub(crate) fn bad_join(happenings: &[Happening], threads: &[ThreadActions]) -> Option<Event>
-    ensures { result ≡ first_not (tests.joins_ended threads.now) event_of happenings.now }
+pub(crate) fn bad_join(event_actions: &[EventAction], threads: &[ThreadActions]) -> Option<Event>
+    ensures { result ≡ first_not (tests.joins_ended threads.now) event_of event_actions.now }
 {
-    for happening in happenings {
-        if !joins_ended(threads, happening) {
-            return Some(happening.event);
+    for event_action in event_actions {
+        if !joins_ended(threads, event_action) {
+            return Some(event_action.event);
         }
     }
     None

@@ -1,16 +1,13 @@
-//! What holds of failing executions.
+//! What holds of failing executions and of first broken conditions.
 
-ghost use Rattle.std.specs.Prelude.{◌≡◌};
-ghost use Rattle.axiom_model.specs.declared.MemoryModel.{MemoryModel};
-ghost use Rattle.axiom_model.specs.declared.Candidate.{Candidate};
-ghost use Rattle.c_check.specs.declared.checked.Checked.{Checked};
-ghost use Rattle.run_model.specs.Threads.{ProgramFails};
-ghost use Rattle.exec_check.specs.declared.Reject.{Reject};
-ghost use Rattle.exec_check.specs.declared.Reject.TheVariants.{OutOfMemory};
-ghost use Rattle.exec_check.specs.Broken.{IsFirstBroken};
+ghost use Rattle.exec_check.specs.Broken.{FailingBreaksNothing, OneFirstBroken};
 
 /// A failing execution breaks no condition: of it `check_execution` answers `Ok`, or wants memory.
 pub fn failing_executions_break_nothing()
-    ensures { (p : Checked) (m : MemoryModel) (c : Candidate) (e : Reject)
-        → ProgramFails p m c → IsFirstBroken p m c e → e ≡ OutOfMemory }
+    ensures { FailingBreaksNothing }
+{}
+
+/// Two first broken conditions of one candidate are one, but for the cycle that is shown; want of memory is none.
+pub fn one_condition_is_broken_first()
+    ensures { OneFirstBroken }
 {}

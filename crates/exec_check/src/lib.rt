@@ -6,20 +6,19 @@
 //! (`IsFirstBroken`). All of them together are `run_model`'s `ProgramFails`. The layers above may use the call, these
 //! definitions, and the law that a failing execution breaks no condition.
 //!
-//! The model is lists: the threads of the candidate, and all actions with their events, thread by thread (`specs/Happenings`).
+//! The model is lists: the threads of the candidate, and all actions with their events, thread by thread (`specs/EventActions`).
 //! Each condition is a test of each item of a list, and the first item that does not pass is the first place.
 #![tactic(auto)]
 
 mod creates;
+mod event_actions;
 mod execution;
-mod happenings;
 mod joins;
 mod laws;
 mod orders;
+mod parts;
 mod runs;
 mod sources;
-#[cfg(test)]
-mod tests;
 mod threads;
 
 ghost use Rattle.std.specs.Prelude.{IfOk, IfErr};
@@ -32,8 +31,9 @@ ghost use Rattle.exec_check.specs.Broken.{IsFirstBroken};
 use axiom_model::{Candidate, Event, MemoryModel};
 use c_check::Checked;
 use dg_base::{List, Place};
-pub use laws::failing_executions_break_nothing;
+pub use laws::{failing_executions_break_nothing, one_condition_is_broken_first};
 use std::alloc::Global;
+pub use threads::check_threads;
 
 /// A thread that fails.
 #[derive(Debug, Clone, Copy, PartialEq, Eq, Drop)]
@@ -102,11 +102,10 @@ pub fn check_execution(
     ensures first { IfOk result (λ f. FailsFirst candidate.now (runs_of checked.now candidate.now.threads) f.handle f.place f.bound) }
     ensures broken { IfErr result (IsFirstBroken checked.now model candidate.now) }
 {
-    threads::check_threads(checked, candidate)?;
-    let ran = runs::run_all(alloc, checked, candidate)?;
-    execution::check_actions(alloc, checked, candidate, ran.threads.as_slice())?;
-    execution::check_model(alloc, checked, model, candidate, ran.threads.as_slice())?;
-    match ran.failing {
+    let done = threads::run_threads(alloc, checked, candidate.threads.as_slice())?;
+    execution::check_actions(checked, candidate, &done)?;
+    execution::check_model(alloc, checked, model, candidate, &done)?;
+    match done.failing {
         Some(failing) => Ok(failing),
         None => Err(Reject::NotFailing),
     }

@@ -4,8 +4,9 @@ ghost use Rattle.std.specs.Prelude.{◌≡◌};
 ghost use Rattle.std.specs.List.{list_any, list_all};
 ghost use Rattle.exec_check.specs.ActionTests as tests;
 
-use crate::happenings::{Happening, same_event};
+use crate::event_actions::EventAction;
 use axiom_model::{Action, Event};
+use consistency::same_event;
 use dg_base::List;
 
 // Whether the list has the event.
@@ -46,11 +47,11 @@ fn writes_cell(cell: usize, action: &Action) -> bool
 }
 
 // Whether some action at the event writes the cell.
-fn is_write(happenings: &[Happening], cell: usize, event: &Event) -> bool
-    ensures { result ≡ tests.is_write happenings.now cell event.now }
+fn is_write(event_actions: &[EventAction], cell: usize, event: &Event) -> bool
+    ensures { result ≡ tests.is_write event_actions.now cell event.now }
 {
-    for happening in happenings {
-        if same_event(&happening.event, event) && writes_cell(cell, &happening.action) {
+    for event_action in event_actions {
+        if same_event(&event_action.event, event) && writes_cell(cell, &event_action.action) {
             return true;
         }
     }
@@ -58,11 +59,11 @@ fn is_write(happenings: &[Happening], cell: usize, event: &Event) -> bool
 }
 
 // Whether each event of the list is a write of the cell.
-fn are_writes(happenings: &[Happening], cell: usize, events: &[Event]) -> bool
-    ensures { result ≡ list_all (tests.is_write happenings.now cell) events.now }
+fn are_writes(event_actions: &[EventAction], cell: usize, events: &[Event]) -> bool
+    ensures { result ≡ list_all (tests.is_write event_actions.now cell) events.now }
 {
     for event in events {
-        if !is_write(happenings, cell, event) {
+        if !is_write(event_actions, cell, event) {
             return false;
         }
     }
@@ -70,11 +71,11 @@ fn are_writes(happenings: &[Happening], cell: usize, events: &[Event]) -> bool
 }
 
 // Whether the list has each write of the cell.
-fn are_listed(cell: usize, events: &[Event], happenings: &[Happening]) -> bool
-    ensures { result ≡ list_all (tests.is_listed cell events.now) happenings.now }
+fn are_listed(cell: usize, events: &[Event], event_actions: &[EventAction]) -> bool
+    ensures { result ≡ list_all (tests.is_listed cell events.now) event_actions.now }
 {
-    for happening in happenings {
-        if writes_cell(cell, &happening.action) && !has_event(events, &happening.event) {
+    for event_action in event_actions {
+        if writes_cell(cell, &event_action.action) && !has_event(events, &event_action.event) {
             return false;
         }
     }
@@ -82,27 +83,31 @@ fn are_listed(cell: usize, events: &[Event], happenings: &[Happening]) -> bool
 }
 
 // Whether the list is the initial write, then the cell's writes, each once.
-fn orders_cell(happenings: &[Happening], cell: usize, events: &[Event]) -> bool
-    ensures { result ≡ tests.orders_cell happenings.now cell events.now }
+fn orders_cell(event_actions: &[EventAction], cell: usize, events: &[Event]) -> bool
+    ensures { result ≡ tests.orders_cell event_actions.now cell events.now }
 {
     match events.split_first() {
         None => false,
         Some((first, writes)) => {
             same_event(&Event::Initial, first)
                 && no_repeats(writes)
-                && are_writes(happenings, cell, writes)
-                && are_listed(cell, writes, happenings)
+                && are_writes(event_actions, cell, writes)
+                && are_listed(cell, writes, event_actions)
         }
     }
 }
 
 /// The first cell without its order of writes, or the number of cells where there are more lists.
-pub(crate) fn disorder(happenings: &[Happening], cells: usize, co: &[List<Event>]) -> Option<usize>
-    ensures { result ≡ tests.first_disorder happenings.now cells 0 co.now }
+pub(crate) fn first_bad_order(
+    event_actions: &[EventAction],
+    cells: usize,
+    co: &[List<Event>],
+) -> Option<usize>
+    ensures { result ≡ tests.bad_order_from event_actions.now cells 0 co.now }
 {
     let mut cell = 0usize;
     for list in co {
-        if cell >= cells || !orders_cell(happenings, cell, list.as_slice()) {
+        if cell >= cells || !orders_cell(event_actions, cell, list.as_slice()) {
             return Some(cell);
         }
         cell += 1;

@@ -1,30 +1,29 @@
-//! The runs of a candidate's threads.
+//! The runs of threads.
 
-ghost use Rattle.std.specs.Prelude.{◌≡◌, ◌⊎◌, map, length, Some, None, true, false, IfOk, IfErr, OnOk};
-ghost use Rattle.axiom_model.specs.declared.MemoryModel.{MemoryModel};
-ghost use Rattle.axiom_model.specs.Failing.{thread_of, failed_by};
+ghost use Rattle.std.specs.Prelude.{◌≡◌, ◌⊎◌, ◌<◌, ◌^◌, All, map, length, Some, None, true, false, IfOk, IfErr, OnOk};
+ghost use Rattle.axiom_model.specs.Failing.{HasWords, thread_of, failed_by};
 ghost use Rattle.c_rules.specs.Names.{or_else};
-ghost use Rattle.consistency.specs.Seen.{thread_seen, execution_seen};
+ghost use Rattle.consistency.specs.Seen.{thread_seen};
 ghost use Rattle.run_model.specs.Threads as endings;
 ghost use Rattle.run_model.specs.Running.{run_of};
 ghost use Rattle.exec_check.specs.declared.Reject.TheVariants as reject;
 ghost use Rattle.exec_check.specs.First.{EachThread};
-ghost use Rattle.exec_check.specs.Running.{run_told, execution_in, shape};
+ghost use Rattle.exec_check.specs.Running.{run_told, alone, shape};
 ghost use Rattle.exec_check.specs.Conditions.{IsKnown, HasThreads, HasRuns};
-ghost use Rattle.exec_check.specs.Broken.{IsFirstBroken};
+ghost use Rattle.exec_check.specs.Broken.{ThreadsBreak};
 ghost use Rattle.exec_check.specs.ThreadTests.{wrong_run, first_wrong, seen_by, failing_at, told_failing};
 
 use crate::{Failing, Reject};
-use axiom_model::{Candidate, ThreadPart};
+use axiom_model::ThreadPart;
 use c_check::Checked;
 use consistency::ThreadActions;
 use dg_base::List;
 use run_model::{Ending, RunStop, ThreadRun, run_thread};
 use std::alloc::Global;
 
-/// What a candidate's threads did.
+/// What threads did.
 #[derive(Drop)]
-pub(crate) struct Ran {
+pub(crate) struct Runs {
     /// Each thread with its actions.
     pub threads: List<ThreadActions>,
     /// The first that fails an assertion; where none does, the first that spends a bound.
@@ -37,10 +36,7 @@ fn has_ended(ending: &Ending) -> bool
 {
     match ending {
         Ending::Ended => true,
-        Ending::Stopped => false,
-        Ending::Failed(_) => false,
-        Ending::Bound(_) => false,
-        Ending::Bad => false,
+        _ => false,
     }
 }
 
@@ -49,11 +45,8 @@ fn is_bad(ending: &Ending) -> bool
     ensures { result ≡ endings.is_bad ending.now }
 {
     match ending {
-        Ending::Ended => false,
-        Ending::Stopped => false,
-        Ending::Failed(_) => false,
-        Ending::Bound(_) => false,
         Ending::Bad => true,
+        _ => false,
     }
 }
 
@@ -67,10 +60,7 @@ fn asserted(part: &ThreadPart, run: &ThreadRun) -> Option<Failing>
             place: *place,
             bound: false,
         }),
-        Ending::Bound(_) => None,
-        Ending::Ended => None,
-        Ending::Stopped => None,
-        Ending::Bad => None,
+        _ => None,
     }
 }
 
@@ -84,16 +74,14 @@ fn spent(part: &ThreadPart, run: &ThreadRun) -> Option<Failing>
             place: *place,
             bound: true,
         }),
-        Ending::Failed(_) => None,
-        Ending::Ended => None,
-        Ending::Stopped => None,
-        Ending::Bad => None,
+        _ => None,
     }
 }
 
 // The run of a thread, which uses its whole script and makes no bad choice.
 fn run_one(alloc: Global, checked: &Checked, part: &ThreadPart) -> Result<ThreadRun, Reject>
     requires { IsKnown (shape checked.now) 0 part.now }
+    ensures words { OnOk result (All (λ v. v < 2 ^ 32) part.now.script) }
     ensures told { IfOk result (λ r. run_told checked.now part.now ≡ Some (run_of r)) }
     ensures well { IfOk result (λ r. wrong_run part.now (run_told checked.now part.now) ≡ None) }
     ensures wrong { IfErr result (λ e. (e ≡ reject.OutOfMemory) ⊎ (wrong_run part.now (run_told checked.now part.now) ≡ Some e)) }
@@ -138,9 +126,9 @@ fn earlier(first: Option<Failing>, second: Option<Failing>) -> Option<Failing>
 }
 
 // The runs of threads, each of which uses its whole script and makes no bad choice.
-fn run_parts(alloc: Global, checked: &Checked, parts: &[ThreadPart]) -> Result<Ran, Reject>
+fn run_parts(alloc: Global, checked: &Checked, parts: &[ThreadPart]) -> Result<Runs, Reject>
     requires { EachThread (IsKnown (shape checked.now)) parts.now }
-    ensures well { OnOk result (first_wrong checked.now parts.now ≡ None) }
+    ensures well { OnOk result (HasWords (alone parts.now) × (first_wrong checked.now parts.now ≡ None)) }
     ensures seen { IfOk result (λ r. map thread_seen r.threads ≡ map (seen_by checked.now) parts.now) }
     ensures failing { IfOk result (λ r. r.failing ≡ told_failing checked.now parts.now) }
     ensures wrong { IfErr result (λ e. (e ≡ reject.OutOfMemory) ⊎ (first_wrong checked.now parts.now ≡ Some e)) }
@@ -156,23 +144,23 @@ fn run_parts(alloc: Global, checked: &Checked, parts: &[ThreadPart]) -> Result<R
             return Err(Reject::OutOfMemory);
         }
     }
-    Ok(Ran {
+    Ok(Runs {
         threads,
         failing: earlier(first, bound),
     })
 }
 
-/// The runs of a candidate's threads, each of which uses its whole script and makes no bad choice.
+/// The runs of threads, each of which uses its whole script and makes no bad choice.
 pub(crate) fn run_all(
     alloc: Global,
     checked: &Checked,
-    candidate: &Candidate,
-) -> Result<Ran, Reject>
-    requires { HasThreads checked.now candidate.now }
-    ensures runs { OnOk result (HasRuns checked.now candidate.now) }
-    ensures seen { IfOk result (λ r. execution_seen r.threads candidate.now.rf candidate.now.co ≡ execution_in checked.now candidate.now) }
-    ensures failing { IfOk result (λ r. r.failing ≡ told_failing checked.now candidate.now.threads) }
-    ensures broken { (m : MemoryModel) → IfErr result (IsFirstBroken checked.now m candidate.now) }
+    parts: &[ThreadPart],
+) -> Result<Runs, Reject>
+    requires { HasThreads checked.now parts.now }
+    ensures runs { OnOk result (HasRuns checked.now parts.now) }
+    ensures seen { IfOk result (λ r. map thread_seen r.threads ≡ map (seen_by checked.now) parts.now) }
+    ensures failing { IfOk result (λ r. r.failing ≡ told_failing checked.now parts.now) }
+    ensures broken { IfErr result (ThreadsBreak checked.now parts.now) }
 {
-    run_parts(alloc, checked, candidate.threads.as_slice())
+    run_parts(alloc, checked, parts)
 }

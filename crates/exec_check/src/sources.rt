@@ -3,12 +3,13 @@
 ghost use Rattle.std.specs.Prelude.{◌≡◌, slice_get};
 ghost use Rattle.std.specs.List.{list_any};
 ghost use Rattle.exec_check.specs.ThreadTests.{first_not, passing};
-ghost use Rattle.exec_check.specs.Happenings.{event_of};
+ghost use Rattle.exec_check.specs.EventActions.{event_of};
 ghost use Rattle.exec_check.specs.ActionTests as tests;
 
-use crate::happenings::{Happening, is_below, same_event};
+use crate::event_actions::{EventAction, is_below};
 use axiom_model::{Action, Event, RfPair};
 use c_check::CellInfo;
+use consistency::same_event;
 
 // Whether the action writes the value to the cell.
 fn is_write_of(cell: u32, value: u32, action: &Action) -> bool
@@ -21,11 +22,13 @@ fn is_write_of(cell: u32, value: u32, action: &Action) -> bool
 }
 
 // Whether some action at the event writes the value to the cell.
-fn writes_at(happenings: &[Happening], event: &Event, cell: u32, value: u32) -> bool
-    ensures { result ≡ list_any (tests.writes_at event.now cell value) happenings.now }
+fn writes_at(event_actions: &[EventAction], event: &Event, cell: u32, value: u32) -> bool
+    ensures { result ≡ list_any (tests.writes_at event.now cell value) event_actions.now }
 {
-    for happening in happenings {
-        if same_event(&happening.event, event) && is_write_of(cell, value, &happening.action) {
+    for event_action in event_actions {
+        if same_event(&event_action.event, event)
+            && is_write_of(cell, value, &event_action.action)
+        {
             return true;
         }
     }
@@ -45,16 +48,16 @@ fn begins_as(cells: &[CellInfo], cell: u32, value: u32) -> bool
 // Whether the event writes the value to the cell.
 fn is_source(
     cells: &[CellInfo],
-    happenings: &[Happening],
+    event_actions: &[EventAction],
     cell: u32,
     value: u32,
     event: &Event,
 ) -> bool
-    ensures { result ≡ tests.is_source cells.now happenings.now cell value event.now }
+    ensures { result ≡ tests.is_source cells.now event_actions.now cell value event.now }
 {
     match *event {
         Event::Initial => begins_as(cells, cell, value),
-        Event::At { .. } => writes_at(happenings, event, cell, value),
+        Event::At { .. } => writes_at(event_actions, event, cell, value),
     }
 }
 
@@ -74,17 +77,17 @@ fn pairs_of(event: &Event, rf: &[RfPair]) -> usize
 // Whether some pair has this reader and a source that writes the value to the cell.
 fn is_given(
     cells: &[CellInfo],
-    happenings: &[Happening],
+    event_actions: &[EventAction],
     event: &Event,
     cell: u32,
     value: u32,
     rf: &[RfPair],
 ) -> bool
-    ensures { result ≡ list_any (tests.gives cells.now happenings.now event.now cell value) rf.now }
+    ensures { result ≡ list_any (tests.gives cells.now event_actions.now event.now cell value) rf.now }
 {
     for pair in rf {
         if same_event(&pair.reader, event)
-            && is_source(cells, happenings, cell, value, &pair.source)
+            && is_source(cells, event_actions, cell, value, &pair.source)
         {
             return true;
         }
@@ -95,28 +98,28 @@ fn is_given(
 // Whether the action, if it is a read, has exactly one pair, and its source writes the value to the cell.
 fn has_source(
     cells: &[CellInfo],
-    happenings: &[Happening],
+    event_actions: &[EventAction],
     rf: &[RfPair],
-    happening: &Happening,
+    event_action: &EventAction,
 ) -> bool
-    ensures { result ≡ tests.has_source cells.now happenings.now rf.now happening.now }
+    ensures { result ≡ tests.has_source cells.now event_actions.now rf.now event_action.now }
 {
-    let event = &happening.event;
-    match happening.action {
+    let event = &event_action.event;
+    match event_action.action {
         Action::Read { cell, value } => {
-            pairs_of(event, rf) == 1 && is_given(cells, happenings, event, cell, value, rf)
+            pairs_of(event, rf) == 1 && is_given(cells, event_actions, event, cell, value, rf)
         }
         _ => true,
     }
 }
 
 // The first read that does not have its one source.
-fn without_source(cells: &[CellInfo], happenings: &[Happening], rf: &[RfPair]) -> Option<Event>
-    ensures { result ≡ first_not (tests.has_source cells.now happenings.now rf.now) event_of happenings.now }
+fn without_source(cells: &[CellInfo], event_actions: &[EventAction], rf: &[RfPair]) -> Option<Event>
+    ensures { result ≡ first_not (tests.has_source cells.now event_actions.now rf.now) event_of event_actions.now }
 {
-    for happening in happenings {
-        if !has_source(cells, happenings, rf, happening) {
-            return Some(happening.event);
+    for event_action in event_actions {
+        if !has_source(cells, event_actions, rf, event_action) {
+            return Some(event_action.event);
         }
     }
     None
@@ -133,11 +136,11 @@ fn is_read(action: &Action) -> bool
 }
 
 // Whether some action at the event is a read.
-fn is_read_at(happenings: &[Happening], event: &Event) -> bool
-    ensures { result ≡ list_any (tests.is_read_at event.now) happenings.now }
+fn is_read_at(event_actions: &[EventAction], event: &Event) -> bool
+    ensures { result ≡ list_any (tests.is_read_at event.now) event_actions.now }
 {
-    for happening in happenings {
-        if same_event(&happening.event, event) && is_read(&happening.action) {
+    for event_action in event_actions {
+        if same_event(&event_action.event, event) && is_read(&event_action.action) {
             return true;
         }
     }
@@ -159,12 +162,12 @@ fn lesser(least: Option<Event>, event: Event) -> Event
 }
 
 // The least of an event and the readers that are no reads.
-fn least_unread(happenings: &[Happening], first: Option<Event>, rf: &[RfPair]) -> Option<Event>
-    ensures { result ≡ tests.least_unread happenings.now first rf.now }
+fn least_unread(event_actions: &[EventAction], first: Option<Event>, rf: &[RfPair]) -> Option<Event>
+    ensures { result ≡ tests.least_unread event_actions.now first rf.now }
 {
     let mut least = first;
     for pair in rf {
-        if !is_read_at(happenings, &pair.reader) {
+        if !is_read_at(event_actions, &pair.reader) {
             least = Some(lesser(least, pair.reader));
         }
     }
@@ -174,10 +177,10 @@ fn least_unread(happenings: &[Happening], first: Option<Event>, rf: &[RfPair]) -
 /// The first event that is a read without its one source, or the reader of a pair and no read.
 pub(crate) fn bad_source(
     cells: &[CellInfo],
-    happenings: &[Happening],
+    event_actions: &[EventAction],
     rf: &[RfPair],
 ) -> Option<Event>
-    ensures { result ≡ tests.least_unread happenings.now (first_not (tests.has_source cells.now happenings.now rf.now) event_of happenings.now) rf.now }
+    ensures { result ≡ tests.least_unread event_actions.now (first_not (tests.has_source cells.now event_actions.now rf.now) event_of event_actions.now) rf.now }
 {
-    least_unread(happenings, without_source(cells, happenings, rf), rf)
+    least_unread(event_actions, without_source(cells, event_actions, rf), rf)
 }

@@ -1,86 +1,105 @@
-//! Which threads a candidate has.
+//! Threads alone: which there are, how they run, and who creates whom.
 
-ghost use Rattle.std.specs.Prelude.{◌≡◌, map, length, unwrap_or, codes, IfErr, OnOk};
-ghost use Rattle.std.specs.List.{list_any};
-ghost use Rattle.axiom_model.specs.declared.MemoryModel.{MemoryModel};
+ghost use Rattle.std.specs.Prelude.{◌≡◌, IfOk, IfErr, OnOk};
+ghost use Rattle.c_check.specs.declared.checked.Checked.{Checked};
 ghost use Rattle.c_check.specs.WellFormed.{IsChecked};
-ghost use Rattle.run_model.specs.Names.{first_named};
-ghost use Rattle.exec_check.specs.Conditions.{HasThreads};
-ghost use Rattle.exec_check.specs.Broken.{IsFirstBroken};
-ghost use Rattle.exec_check.specs.ThreadTests as tests;
+ghost use Rattle.exec_check.specs.declared.Reject.TheVariants as reject;
+ghost use Rattle.exec_check.specs.Running.{acting};
+ghost use Rattle.exec_check.specs.Conditions.{HasRuns, HasCreates, HasChildren};
+ghost use Rattle.exec_check.specs.Broken.{ThreadsBreak};
+ghost use Rattle.exec_check.specs.EventActions as specs;
+ghost use Rattle.exec_check.specs.EventActions.{ListsActions};
+ghost use Rattle.exec_check.specs.Done.{HasDone};
 
-use crate::Reject;
-use axiom_model::{Candidate, ThreadPart};
+use crate::creates::{missing_child, not_created};
+use crate::event_actions::{EventAction, event_actions};
+use crate::parts::check_parts;
+use crate::runs::run_all;
+use crate::{Failing, Reject};
+use axiom_model::ThreadPart;
 use c_check::Checked;
-use dg_base::Bytes;
+use consistency::ThreadActions;
+use dg_base::List;
+use std::alloc::Global;
 
-// The number of the function main; 0 where there is none.
-fn main_number(functions: &[Bytes]) -> usize
-    ensures { result ≡ unwrap_or (first_named (λ n. n) 0 functions.now (codes "main")) 0 }
-{
-    let mut number = 0usize;
-    for name in functions {
-        if name.as_slice() == b"main".as_slice() {
-            return number;
-        }
-        number += 1;
-    }
-    0
+/// What threads did that may be those of an execution.
+#[derive(Drop)]
+pub(crate) struct Done {
+    /// Each thread with its actions.
+    pub threads: List<ThreadActions>,
+    /// All actions with their events, thread by thread.
+    pub event_actions: List<EventAction>,
+    /// The first that fails an assertion; where none does, the first that spends a bound.
+    pub failing: Option<Failing>,
 }
 
-// Whether handle 0 runs main with argument 0.
-fn has_main(main: usize, parts: &[ThreadPart]) -> bool
-    ensures { result ≡ list_any (tests.is_main main) parts.now }
+// All actions with their events. Want of memory also where a thread has more than a u32 counts.
+fn listed(alloc: Global, threads: &[ThreadActions]) -> Result<List<EventAction>, Reject>
+    ensures listed { IfOk result (λ l. l ≡ specs.event_actions threads.now) }
+    ensures want { IfErr result (λ e. e ≡ reject.OutOfMemory) }
 {
-    for part in parts {
-        if part.handle == 0 && part.function as usize == main && part.arg == 0 {
-            return true;
-        }
+    match event_actions(alloc, threads) {
+        Ok(list) => Ok(list),
+        Err(_) => Err(Reject::OutOfMemory),
     }
-    false
 }
 
-// The first handle that is not above the one before it.
-fn not_rising(parts: &[ThreadPart]) -> Option<u32>
-    ensures { result ≡ tests.not_rising 0 parts.now }
+// Whether some action creates each thread but main, of any program whose actions these are.
+fn check_creates(event_actions: &[EventAction], parts: &[ThreadPart]) -> Result<(), Reject>
+    ensures created { (p : Checked) → HasRuns p parts.now → ListsActions (acting p parts.now) event_actions.now → OnOk result (HasCreates p parts.now) }
+    ensures broken { (p : Checked) → HasRuns p parts.now → ListsActions (acting p parts.now) event_actions.now → IfErr result (ThreadsBreak p parts.now) }
 {
-    let mut least = 0u64;
-    for part in parts {
-        if u64::from(part.handle) < least {
-            return Some(part.handle);
-        }
-        least = u64::from(part.handle) + 1;
+    match not_created(event_actions, parts) {
+        Some(handle) => Err(Reject::NoCreate(handle)),
+        None => Ok(()),
     }
-    None
 }
 
-// The first handle that is too large or whose function is not one of so many.
-fn unknown(functions: usize, parts: &[ThreadPart]) -> Option<u32>
-    ensures { result ≡ tests.first_not (tests.is_known functions) tests.handle_of parts.now }
+// Whether each created thread is there, of any such program.
+fn check_children(event_actions: &[EventAction], parts: &[ThreadPart]) -> Result<(), Reject>
+    ensures children { (p : Checked) → HasCreates p parts.now → ListsActions (acting p parts.now) event_actions.now → OnOk result (HasChildren p parts.now) }
+    ensures broken { (p : Checked) → HasCreates p parts.now → ListsActions (acting p parts.now) event_actions.now → IfErr result (ThreadsBreak p parts.now) }
 {
-    for part in parts {
-        if part.function as usize >= functions || part.handle >= 16_777_216 {
-            return Some(part.handle);
-        }
+    match missing_child(event_actions, parts) {
+        Some(handle) => Err(Reject::NoThread(handle)),
+        None => Ok(()),
     }
-    None
 }
 
-/// Whether the candidate has main, its handles rise, and its functions and handles are known.
-pub(crate) fn check_threads(checked: &Checked, candidate: &Candidate) -> Result<(), Reject>
+/// What threads do that may be those of an execution: main is there, handles rise, each function is known, each thread runs
+/// well and is created, and no other is.
+pub(crate) fn run_threads(
+    alloc: Global,
+    checked: &Checked,
+    parts: &[ThreadPart],
+) -> Result<Done, Reject>
     requires { IsChecked checked.now }
-    ensures known { OnOk result (HasThreads checked.now candidate.now) }
-    ensures broken { (m : MemoryModel) → IfErr result (IsFirstBroken checked.now m candidate.now) }
+    ensures children { OnOk result (HasChildren checked.now parts.now) }
+    ensures did { IfOk result (HasDone checked.now parts.now) }
+    ensures broken { IfErr result (ThreadsBreak checked.now parts.now) }
 {
-    let parts = candidate.threads.as_slice();
-    if !has_main(main_number(checked.functions.as_slice()), parts) {
-        return Err(Reject::MainMissing);
+    check_parts(checked, parts)?;
+    let runs = run_all(alloc, checked, parts)?;
+    let event_actions = listed(alloc, runs.threads.as_slice())?;
+    check_creates(event_actions.as_slice(), parts)?;
+    check_children(event_actions.as_slice(), parts)?;
+    Ok(Done {
+        threads: runs.threads,
+        event_actions,
+        failing: runs.failing,
+    })
+}
+
+/// Whether threads may be those of an execution of the program, whatever their reads' sources and the writes' orders are: main
+/// is there, handles rise, each function is known, each thread runs well and is created, and no other is. An error is the first
+/// of these that does not hold, or want of memory.
+pub fn check_threads(alloc: Global, checked: &Checked, threads: &[ThreadPart]) -> Result<(), Reject>
+    requires { IsChecked checked.now }
+    ensures children { OnOk result (HasChildren checked.now threads.now) }
+    ensures broken { IfErr result (ThreadsBreak checked.now threads.now) }
+{
+    match run_threads(alloc, checked, threads) {
+        Ok(_) => Ok(()),
+        Err(reject) => Err(reject),
     }
-    if let Some(handle) = not_rising(parts) {
-        return Err(Reject::ThreadTwice(handle));
-    }
-    if let Some(handle) = unknown(checked.functions.len(), parts) {
-        return Err(Reject::UnknownThread(handle));
-    }
-    Ok(())
 }

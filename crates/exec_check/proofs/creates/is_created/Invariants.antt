@@ -3,5 +3,5 @@ use Rattle.std.specs.List.{list_any}
 use Rattle.exec_check.specs.ActionTests as tests
 use Rattle.exec_check.proofs.creates.is_created.Given as goal
 
-abbrev pub invariant-loop-happening : goal.invariant-loop-happening
-invariant-loop-happening l = list_any (tests.creates l.thread) (drop l.happening-index l.happenings) ≡ list_any (tests.creates l.thread) l.happenings
+abbrev pub invariant-loop-event_action : goal.invariant-loop-event_action
+invariant-loop-event_action l = list_any (tests.creates l.thread) (drop l.event_action-index l.event_actions) ≡ list_any (tests.creates l.thread) l.event_actions

@@ -5,4 +5,4 @@ use Rattle.exec_check.specs.ActionTests as tests
 use Rattle.exec_check.proofs.creates.not_created.Given as goal
 
 abbrev pub invariant-loop-thread : goal.invariant-loop-thread
-invariant-loop-thread l = first_not (tests.is_created l.happenings) handle_of (drop l.thread-index l.threads) ≡ first_not (tests.is_created l.happenings) handle_of l.threads
+invariant-loop-thread l = first_not (tests.is_created l.event_actions) handle_of (drop l.thread-index l.threads) ≡ first_not (tests.is_created l.event_actions) handle_of l.threads

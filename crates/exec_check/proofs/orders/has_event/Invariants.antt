@@ -1,6 +1,6 @@
 use Rattle.std.proofs.Common.{◌≡◌, drop}
 use Rattle.std.specs.List.{list_any}
-use Rattle.exec_check.specs.Happenings.{same_event}
+use Rattle.consistency.specs.Edges.{same_event}
 use Rattle.exec_check.proofs.orders.has_event.Given as goal
 
 abbrev pub invariant-loop-other : goal.invariant-loop-other
