@@ -8,5 +8,11 @@ pub mod FunctionCounts
 pub mod Threads
 pub mod Steady
 pub mod Mains
+pub mod Differing
 pub mod Started
 pub mod Reached
+pub mod Joint
+pub mod JointMeaning
+pub mod JointBodies
+pub mod Told
+pub mod Framing

@@ -15,6 +15,7 @@ use Rattle.run_model.proofs.Handles.{run_is_numbered}
 use Rattle.run_model.proofs.Creates.{first_is, numbered_at, before, few_before}
 use Rattle.run_laws.specs.Started.{IsStarted, main, created}
 use Rattle.run_laws.proofs.Growing.{CreatesOf}
+use Rattle.run_laws.proofs.Differing.{apart, differ}
 use Rattle.run_laws.proofs.FunctionCounts.{counts_for}
 use Rattle.run_laws.proofs.Expressions.{Low}
 use Rattle.run_laws.proofs.Threads.{at_level, Fine, run_few}
@@ -86,6 +87,20 @@ module _ (p : Checked) (checked : IsChecked p) where
   started_handles_low d f handle arg script r s low e h g v made =
       let at = create_at h g v r.actions made in
       let is : h ≡ 64 * handle + (0 + before r.actions at.0) + 1 = numbered_at h g v handle 0 r.actions at.0 (run_is_numbered p f handle arg script r e) at.1 in
-      let few : before r.actions at.0 < 63 = omega (arith, few_before h g v r.actions at.0 at.1, started_create_few d f handle arg script r s e) in
+      let few : 0 + before r.actions at.0 < 63 = omega (arith, few_before h g v r.actions at.0 at.1, started_create_few d f handle arg script r s e) in
       let fits : h < 64 ^ suc d = subst (λ (n : ℕ). n < 64 ^ suc d) (sym is) (one_more_digit handle (0 + before r.actions at.0) d low few) in
       (fits, below_all (suc d) h (started_shallow (suc d) g (created d f g handle arg h v script r s e made)) fits)
+
+  -- ---- creates of two runs
+
+  pub started_creates_differ : (d e f g own other arg val : ℕ) (script more : List ℕ) (r q : Run) → IsStarted p d f → IsStarted p e g → thread_run p f own arg script ≡ Some r → thread_run p g other val more ≡ Some q
+      → (h a b v w : ℕ) → Contains r.actions (Create h a v) → Contains q.actions (Create h b w) → own ≡ other
+  started_creates_differ d e f g own other arg val script more r q s t is that h a b v w made again =
+      let one = create_at h a v r.actions made in
+      let two = create_at h b w q.actions again in
+      differ h a v b w own other r.actions q.actions (run_is_numbered p f own arg script r is) (run_is_numbered p g other val more q that)
+      (started_create_few d f own arg script r s is) (started_create_few e g other val more q t that) one.0 two.0 one.1 two.1
+
+pub creates_differ_in_a_run : (p : Checked) (f handle arg : ℕ) (script : List ℕ) (r : Run) → thread_run p f handle arg script ≡ Some r
+    → (i j h a b v w : ℕ) → slice_get r.actions i ≡ Some (Create h a v) → slice_get r.actions j ≡ Some (Create h b w) → i ≡ j
+creates_differ_in_a_run p f handle arg script r e i j h a b v w one two = apart h a v b w handle r.actions (run_is_numbered p f handle arg script r e) i j one two

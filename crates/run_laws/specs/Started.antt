@@ -1,5 +1,5 @@
 -- Functions that threads run, told without an execution: main's, and those of which a started thread creates a thread.
-use Rattle.std.specs.Prelude.{◌≡◌, ℕ, zero, suc, ◌<◌, ◌≤◌, ◌^◌, List, Some, Contains}
+use Rattle.std.specs.Prelude.{◌≡◌, ℕ, zero, suc, ◌<◌, ◌≤◌, ◌^◌, List, Some, slice_get, Contains}
 use Rattle.axiom_model.specs.declared.Action.TheVariants.{Create}
 use Rattle.axiom_model.specs.Failing.{Run}
 use Rattle.c_check.specs.declared.checked.Checked.{Checked}
@@ -28,3 +28,16 @@ abbrev pub StartedHandlesAreLow : Type 0
 StartedHandlesAreLow =
     (p : Checked) (d f handle arg : ℕ) (script : List ℕ) (r : Run) → IsChecked p → IsStarted p d f → handle < 64 ^ d → thread_run p f handle arg script ≡ Some r
     → (h g v : ℕ) → Contains r.actions (Create h g v) → (h < 64 ^ suc d) × (h < 2 ^ 24)
+
+-- threads of different handles create threads of different handles, where both run started functions
+abbrev pub StartedCreatesDiffer : Type 0
+StartedCreatesDiffer =
+    (p : Checked) (d e f g own other arg val : ℕ) (script more : List ℕ) (r q : Run) → IsChecked p → IsStarted p d f → IsStarted p e g
+    → thread_run p f own arg script ≡ Some r → thread_run p g other val more ≡ Some q
+    → (h a b v w : ℕ) → Contains r.actions (Create h a v) → Contains q.actions (Create h b w) → own ≡ other
+
+-- and one run creates no two threads of one handle
+abbrev pub CreatesDifferInARun : Type 0
+CreatesDifferInARun =
+    (p : Checked) (f handle arg : ℕ) (script : List ℕ) (r : Run) → thread_run p f handle arg script ≡ Some r
+    → (i j h a b v w : ℕ) → slice_get r.actions i ≡ Some (Create h a v) → slice_get r.actions j ≡ Some (Create h b w) → i ≡ j

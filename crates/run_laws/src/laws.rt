@@ -10,7 +10,8 @@ ghost use Rattle.c_check.specs.WellFormed.{IsChecked};
 ghost use Rattle.run_model.specs.Programs.{shape_of};
 ghost use Rattle.run_model.specs.Threads.{thread_run};
 ghost use Rattle.run_model.specs.Laws.{CreatesFew, CreatesOnce};
-ghost use Rattle.run_laws.specs.Started.{StartedCreateFew, StartedIsShallow, StartedHandlesAreLow};
+ghost use Rattle.run_laws.specs.Started.{StartedCreateFew, StartedIsShallow, StartedHandlesAreLow, StartedCreatesDiffer, CreatesDifferInARun};
+ghost use Rattle.run_laws.specs.Frames.{RunsAreFramed, ShortRunsAreFramed};
 
 /// What the check of a program has counted holds of its runs, without an execution: a run of a function
 /// that main leads to creates at most 63 threads, at most four creations lie between main and such a
@@ -19,6 +20,21 @@ pub fn started_threads_are_limited()
     ensures few { StartedCreateFew }
     ensures shallow { StartedIsShallow }
     ensures low_handles { StartedHandlesAreLow }
+{}
+
+/// Creates of one handle are one create: threads of different handles that run started functions create
+/// threads of different handles, and no run creates two of one.
+pub fn started_creates_differ()
+    ensures of_two_runs { StartedCreatesDiffer }
+    ensures of_one_run { CreatesDifferInARun }
+{}
+
+/// Start is the first action of a run and stands nowhere else. End is the last one where the thread came
+/// to its end, and stands nowhere else; a run that ends otherwise, and one for which the script is too
+/// short, has none.
+pub fn runs_are_framed()
+    ensures whole { RunsAreFramed }
+    ensures short { ShortRunsAreFramed }
 {}
 
 /// Each thread of a well made candidate of a checked program creates at most 63 threads.

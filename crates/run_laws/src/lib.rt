@@ -9,4 +9,6 @@
 
 mod laws;
 
-pub use laws::{creates_are_few, creates_differ, started_threads_are_limited};
+pub use laws::{
+    creates_are_few, creates_differ, runs_are_framed, started_creates_differ, started_threads_are_limited,
+};

@@ -1,0 +1,149 @@
+-- A relation of steps that the parts of two runs have, the two runs have: an induction over all forms. The runs are of one
+-- program, of a thread with one handle, for two bounds on loops. A property of one run is a relation that looks at the left side.
+use Rattle.std.proofs.Common.{◌≡◌, ℕ, ◌+◌, ◌≤◌, List, [], ◌∷◌, ◌++◌, Option, Bool, true, false, ◌⊎◌, take}
+use Rattle.std.specs.Prelude.{cond, replicate}
+use Rattle.std.specs.List.{Contains}
+use Rattle.std.proofs.lemmas.List.Elements.{Contains-append_left, Contains-append_right}
+use Rattle.dg_base.specs.declared.Place.{Place}
+use Rattle.dg_base.specs.declared.operators.Op.{Op}
+use Rattle.dg_base.specs.Values.{value_of}
+use Rattle.axiom_model.specs.declared.Action.TheVariants.{Fence}
+use Rattle.c_tree.specs.declared.program.Param.{Param}
+use Rattle.c_tree.specs.declared.program.Function.{Function}
+use Rattle.c_rules.specs.Names.{Name}
+use Rattle.run_model.specs.declared.state.Flow.{Flow}
+use Rattle.run_model.specs.declared.state.Flow.TheVariants.{Returned}
+use Rattle.run_model.specs.declared.state.Local.{Local}
+use Rattle.run_model.specs.declared.state.Shared.{Shared}
+use Rattle.run_model.specs.declared.state.Need.TheVariants.{Any}
+use Rattle.run_model.specs.declared.state.Slot.{Slot}
+use Rattle.run_model.specs.declared.state.Slot.TheVariants.{Own}
+use Rattle.run_model.specs.Steps.{State, Outcome, Goes, Halts, Step, ◌>>=◌, ◌>>◌, pure, nothing, look, change, make, take_number, begin_section, end_section, stop, fail}
+use Rattle.run_model.specs.Cells.{read, write, slot}
+use Rattle.run_model.specs.Calls.{Setting, no_other, spend, function_in, lock_cell, unlock_cell, exit_thread, any_bool, create, join}
+use Rattle.run_model.specs.Threads.{parameters}
+
+-- ---- two settings
+
+-- what the two sides have in common, then the bound of each and whether it tells a spent one
+pub record Two : Type 0 where
+  pub shared : List Shared
+  pub functions : List Function
+  pub handle : ℕ
+  pub turns : ℕ
+  pub full : Bool
+  pub other_turns : ℕ
+  pub other_full : Bool
+
+abbrev pub one : Two → Setting
+one g = record { shared = g.shared; functions = g.functions; turns = g.turns; full = g.full; handle = g.handle; other = no_other }
+
+abbrev pub two : Two → Setting
+two g = record { shared = g.shared; functions = g.functions; turns = g.other_turns; full = g.other_full; handle = g.handle; other = no_other }
+
+-- ---- values
+
+-- what holds of each value, of each cell that is found, and of the locals
+pub record Values : Type 1 where
+  pub word : ℕ → Type 0
+  pub cell : Slot → Type 0
+  pub locals : List Local → Type 0
+
+abbrev pub anything : {A : Type 0} → A → Type 0
+anything a = Unit {0}
+
+-- where nothing is asked
+abbrev pub no_values : Values
+no_values = record { word = anything; cell = anything; locals = anything }
+
+abbrev pub Words : Values → List ℕ → Type 0
+Words v [] = Unit {0}
+Words v (x ∷ xs) = v.word x × Words v xs
+
+-- the value of a `return`
+abbrev pub Leaves : Values → Flow → Type 0
+Leaves v (Returned x) = v.word x
+Leaves v _ = Unit {0}
+
+-- the constants are such values
+abbrev pub Known : Values → List ℕ → Type 0
+Known v xs = (x : ℕ) → Contains xs x → v.word x
+
+pub known_left : (v : Values) (xs ys : List ℕ) → Known v (xs ++ ys) → Known v xs
+known_left v xs ys h x c = h x (Contains-append_left xs ys x c)
+
+pub known_right : (v : Values) (xs ys : List ℕ) → Known v (xs ++ ys) → Known v ys
+known_right v xs ys h x c = h x (Contains-append_right xs ys x c)
+
+pub words-append : (v : Values) (xs ys : List ℕ) → Words v xs → Words v ys → Words v (xs ++ ys)
+words-append v [] ys h i = i
+words-append v (x ∷ xs) ys h i = (h.0, words-append v xs ys h.1 i)
+
+-- operators give such values of such values, and locals keep what holds of them
+pub record Closed (v : Values) : Type 0 where
+  pub zero_word : v.word 0
+  pub one_word : v.word 1
+  pub operators : (o : Op) (xs : List ℕ) → Words v xs → v.word (value_of o xs)
+  pub enters : (name : Name) (unsigned : Bool) (n : ℕ) (ls : List Local) → v.locals ls → v.locals (ls ++ record { name = name; unsigned = unsigned; cells = replicate n 0 } ∷ [])
+  pub takes : (n : ℕ) (ls : List Local) → v.locals ls → v.locals (take n ls)
+  pub begins : (ps : List Param) (xs : List ℕ) → Words v xs → v.locals (parameters [] 0 ps xs)
+
+pub no_values_closed : Closed no_values
+no_values_closed = record { zero_word = tt; one_word = tt; operators = λ o xs h. tt; enters = λ n u c ls h. tt; takes = λ n ls h. tt; begins = λ ps xs h. tt }
+
+-- what a step that goes on gives
+abbrev pub Ok : {A : Type 0} → (A → Type 0) → Outcome A → Type 0
+Ok Q (Goes a t) = Q a
+Ok Q (Halts h t) = Unit {0}
+
+pub ok_any : {A : Type 0} (o : Outcome A) → Ok anything o
+ok_any (Goes a t) = tt
+ok_any (Halts h t) = tt
+
+-- ---- relations
+
+abbrev pub Relation : Type 1
+Relation = (A : Type 0) → (A → Type 0) → Step A → Step A → Type 0
+
+-- a step whose spent bound on the left is related to whatever the right side does with more turns
+abbrev pub Passes : Two → Values → Relation → Type 0
+Passes g v R = (p : Place) (m n : Step Flow) → R Flow (Leaves v) m n → R Flow (Leaves v) (spend (one g) p) n
+
+-- The relation holds of the parts that all steps are made of; a value that a step goes on with is one of those asked for.
+pub record Relates (g : Two) (v : Values) (R : Relation) : Type 1 where
+  pub of_pure : (A : Type 0) (Q : A → Type 0) (a : A) → Q a → R A Q (pure a) (pure a)
+  pub of_then : (A B : Type 0) (P : A → Type 0) (Q : B → Type 0) (m n : Step A) (f h : A → Step B) → R A P m n → ((a : A) → P a → R B Q (f a) (h a)) → R B Q (m >>= f) (n >>= h)
+  pub of_choice : (A T : Type 0) (Q : A → Type 0) (c : List Local → T) (f h : T → Step A) → ((ls : List Local) → v.locals ls → R A Q (f (c ls)) (h (c ls))) → R A Q (λ s. f (c s.locals) s) (λ s. h (c s.locals) s)
+  pub of_locals : (c : List Local → List Local) → ((ls : List Local) → v.locals ls → v.locals (c ls)) → R (Unit {0}) anything (change (λ s. record s { locals = c s.locals })) (change (λ s. record s { locals = c s.locals }))
+  pub of_fail : (A : Type 0) (Q : A → Type 0) (p : Place) → R A Q (fail p) (fail p)
+  pub of_stop : (A : Type 0) (Q : A → Type 0) → R A Q stop stop
+  pub of_any : R ℕ v.word (take_number Any) (take_number Any)
+  pub of_bool : R ℕ v.word any_bool any_bool
+  pub of_slot : (p : Place) (n : Name) (i : ℕ) → R Slot v.cell (slot g.shared p n i) (slot g.shared p n i)
+  pub of_read : (c : Slot) → v.cell c → R ℕ v.word (read c) (read c)
+  pub of_write : (c : Slot) (x : ℕ) → v.cell c → v.word x → R (Unit {0}) anything (write c x) (write c x)
+  pub of_own : (i j x : ℕ) → v.word x → R (Unit {0}) anything (write (Own i j) x) (write (Own i j) x)
+  pub of_lock : (c : Slot) → v.cell c → R (Unit {0}) anything (lock_cell c) (lock_cell c)
+  pub of_unlock : (c : Slot) → v.cell c → R (Unit {0}) anything (unlock_cell c) (unlock_cell c)
+  pub of_begin : R (Unit {0}) anything begin_section begin_section
+  pub of_end : R (Unit {0}) anything end_section end_section
+  pub of_exit : R ℕ v.word exit_thread exit_thread
+  pub of_create : (c : Slot) (n : Option Name) (x : ℕ) → v.cell c → v.word x → R ℕ v.word (create (one g) c (function_in (one g) n) x) (create (two g) c (function_in (two g) n) x)
+  pub of_join : (h : ℕ) → v.word h → R ℕ v.word (join h) (join h)
+  pub of_fence : R (Unit {0}) anything (make Fence) (make Fence)
+  pub of_spend : (p : Place) → R Flow (Leaves v) (spend (one g) p) (spend (two g) p)
+  pub of_turns : (g.other_turns ≡ g.turns) ⊎ ((g.turns ≤ g.other_turns) × Passes g v R)
+
+module _ (g : Two) (v : Values) (R : Relation) (k : Relates g v R) where
+  pub both_then : {A B : Type 0} (P : A → Type 0) (Q : B → Type 0) (m n : Step A) (f h : Step B) → R A P m n → R B Q f h → R B Q (m >> f) (n >> h)
+  both_then {A = A} {B = B} P Q m n f h p q = k.of_then A B P Q m n (λ _. f) (λ _. h) p (λ _ _. q)
+
+  pub both_nothing : R (Unit {0}) anything nothing nothing
+  both_nothing = k.of_pure (Unit {0}) anything tt tt
+
+  pub both_look : (A : Type 0) (Q : A → Type 0) (c : List Local → A) → ((ls : List Local) → v.locals ls → Q (c ls)) → R A Q (look (λ s. c s.locals)) (look (λ s. c s.locals))
+  both_look A Q c h = k.of_choice A A Q c (λ a. pure a) (λ a. pure a) (λ ls p. k.of_pure A Q (c ls) (h ls p))
+
+  pub both_cond : (A : Type 0) (Q : A → Type 0) (b : Bool) (m n f h : Step A) → R A Q m f → R A Q n h → R A Q (cond b m n) (cond b f h)
+  both_cond A Q true m n f h p q = p
+  both_cond A Q false m n f h p q = q
