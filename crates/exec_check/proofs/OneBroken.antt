@@ -190,37 +190,37 @@ module _ (p : Checked) (m : MemoryModel) (c : Candidate) where
 
   one_blocks : One OfBlocks
   one_blocks =
-      next _ (NoCycle (Leaves m (execution_in p c))) OfFailing (λ e b h. b.2 h) (tells_one BlockCycle (λ l. ¬ NoCycle (Leaves m (execution_in p c))) (λ a b q r. refl)) (is_one NotFailing (Unit {0}))
+      next (Tells BlockCycle (λ l. ¬ NoCycle (Leaves m (execution_in p c)))) (NoCycle (Leaves m (execution_in p c))) OfFailing (λ e b h. b.2 h) (tells_one BlockCycle (λ l. ¬ NoCycle (Leaves m (execution_in p c))) (λ a b q r. refl)) (is_one NotFailing (Unit {0}))
 
   one_global : One OfGlobal
   one_global =
-      next _ (NoCycle (GlobalEdge m (execution_in p c))) OfBlocks (λ e b h. b.2 h) (tells_one GlobalCycle (λ l. ¬ NoCycle (GlobalEdge m (execution_in p c))) (λ a b q r. refl)) one_blocks
+      next (Tells GlobalCycle (λ l. ¬ NoCycle (GlobalEdge m (execution_in p c)))) (NoCycle (GlobalEdge m (execution_in p c))) OfBlocks (λ e b h. b.2 h) (tells_one GlobalCycle (λ l. ¬ NoCycle (GlobalEdge m (execution_in p c))) (λ a b q r. refl)) one_blocks
 
   one_local : One OfLocal
   one_local =
-      next _ (NoCycle (LocalEdge (execution_in p c))) OfGlobal (λ e b h. b.2 h) (tells_one LocalCycle (λ l. ¬ NoCycle (LocalEdge (execution_in p c))) (λ a b q r. refl)) one_global
+      next (Tells LocalCycle (λ l. ¬ NoCycle (LocalEdge (execution_in p c)))) (NoCycle (LocalEdge (execution_in p c))) OfGlobal (λ e b h. b.2 h) (tells_one LocalCycle (λ l. ¬ NoCycle (LocalEdge (execution_in p c))) (λ a b q r. refl)) one_global
 
   one_joins : One OfJoins
-  one_joins = next _ ((e : Event) → Joins e) OfLocal (λ e b h. b.2.broken (h b.0)) (tells_same BadJoin (FirstEvent Joins) (one_event Joins)) one_local
+  one_joins = next (Tells BadJoin (FirstEvent Joins)) ((e : Event) → Joins e) OfLocal (λ e b h. b.2.broken (h b.0)) (tells_same BadJoin (FirstEvent Joins) (one_event Joins)) one_local
 
   one_orders : One OfOrders
   one_orders =
       let P = HasOrder (shape p) (execution_in p c) in
-      next _ ((n : ℕ) → P n) OfJoins (λ e b h. b.2.broken (h b.0)) (tells_same BadOrder (FirstNumber P) (one_number P)) one_joins
+      next (Tells BadOrder (FirstNumber (HasOrder (shape p) (execution_in p c)))) ((n : ℕ) → P n) OfJoins (λ e b h. b.2.broken (h b.0)) (tells_same BadOrder (FirstNumber P) (one_number P)) one_joins
 
   one_sources : One OfSources
   one_sources =
       let P = IsSourced (shape p) (execution_in p c) in
-      next _ ((e : Event) → P e) OfOrders (λ e b h. b.2.broken (h b.0)) (tells_same BadSource (FirstEvent P) (one_event P)) one_orders
+      next (Tells BadSource (FirstEvent (IsSourced (shape p) (execution_in p c)))) ((e : Event) → P e) OfOrders (λ e b h. b.2.broken (h b.0)) (tells_same BadSource (FirstEvent P) (one_event P)) one_orders
 
   one_children : One OfChildren
   one_children =
-      next _ ((e : Event) → Children e) OfSources (λ e b h. b.2.3.broken (h b.2.0)) (tells_same NoThread (FirstChild (acting p c.threads)) (one_child (acting p c.threads))) one_sources
+      next (Tells NoThread (FirstChild (acting p c.threads))) ((e : Event) → Children e) OfSources (λ e b h. b.2.3.broken (h b.2.0)) (tells_same NoThread (FirstChild (acting p c.threads)) (one_child (acting p c.threads))) one_sources
 
   one_creates : One OfCreates
   one_creates =
       let P = IsCreated (acting p c.threads) in
-      next _ (EachThread P c.threads) OfChildren (λ e b h. no_thread P b.0 b.2 h) (tells_same NoCreate (FirstHandle P c.threads) (one_handle P c.threads)) one_children
+      next (Tells NoCreate (FirstHandle (IsCreated (acting p c.threads)) c.threads)) (EachThread P c.threads) OfChildren (λ e b h. no_thread P b.0 b.2 h) (tells_same NoCreate (FirstHandle P c.threads) (one_handle P c.threads)) one_children
 
   one_runs : One OfRuns
   one_runs = next WrongRun (EachThread (RunsWell p) c.threads) OfCreates (λ e b h. b.1.broken (h b.1.place b.0 b.1.there)) one_wrong one_creates
@@ -228,15 +228,15 @@ module _ (p : Checked) (m : MemoryModel) (c : Candidate) where
   one_known : One OfKnown
   one_known =
       let P = IsKnown (shape p) in
-      next _ (EachThread P c.threads) OfRuns (λ e b h. no_thread P b.0 b.2 h) (tells_same UnknownThread (FirstHandle P c.threads) (one_handle P c.threads)) one_runs
+      next (Tells UnknownThread (FirstHandle (IsKnown (shape p)) c.threads)) (EachThread P c.threads) OfRuns (λ e b h. no_thread P b.0 b.2 h) (tells_same UnknownThread (FirstHandle P c.threads) (one_handle P c.threads)) one_runs
 
   one_rising : One OfRising
   one_rising =
       let P = IsAboveAll c.threads in
-      next _ (EachThread P c.threads) OfKnown (λ e b h. no_thread P b.0 b.2 h) (tells_same ThreadTwice (FirstHandle P c.threads) (one_handle P c.threads)) one_known
+      next (Tells ThreadTwice (FirstHandle (IsAboveAll c.threads) c.threads)) (EachThread P c.threads) OfKnown (λ e b h. no_thread P b.0 b.2 h) (tells_same ThreadTwice (FirstHandle P c.threads) (one_handle P c.threads)) one_known
 
   one_told : One Told
-  one_told = next _ (HasMain (shape p) c.threads) OfRising (λ e b h. b.1 h) (is_one MainMissing (¬ HasMain (shape p) c.threads)) one_rising
+  one_told = next (λ e. (e ≡ MainMissing) × (¬ HasMain (shape p) c.threads)) (HasMain (shape p) c.threads) OfRising (λ e b h. b.1 h) (is_one MainMissing (¬ HasMain (shape p) c.threads)) one_rising
 
 pub one_broken_first : (p : Checked) (m : MemoryModel) (c : Candidate) (e f : Reject) → e ≢ OutOfMemory → f ≢ OutOfMemory → IsFirstBroken p m c e → IsFirstBroken p m c f → without_cycle e ≡ without_cycle f
 one_broken_first p m c e f n k b d = one_told p m c e f (tell p m c e n b) (tell p m c f k d)
