@@ -57,21 +57,21 @@ abbrev Next : (Reject → Type 0) → Type 0 → (Reject → Type 0) → Reject 
 Next B C R e = B e ⊎ (C × R e)
 
 next : (B : Reject → Type 0) (C : Type 0) (R : Reject → Type 0) → ((e : Reject) → B e → C → ⊥) → One B → One R → One (Next B C R)
-next B C R no b r e f x y =
-    ⊎_elim (λ u. ⊎_elim (λ v. b e f u v) (λ v. absurd (no e u v.0)) y) (λ u. ⊎_elim (λ v. absurd (no f v u.0)) (λ v. r e f u.1 v.1) y) x
+next B C R apart b r =
+    λ e f x y. ⊎_elim (λ u. ⊎_elim (λ v. b e f u v) (λ v. absurd (apart e u v.0)) y) (λ u. ⊎_elim (λ v. absurd (apart f v u.0)) (λ v. r e f u.1 v.1) y) x
 
 -- the answer is of a variant with one field, of which P holds
 abbrev Tells : {A : Type 0} → (A → Reject) → (A → Type 0) → Reject → Type 0
 Tells {A = A} variant P e = (a : A) × (e ≡ variant a) × P a
 
 tells_one : {A : Type 0} (variant : A → Reject) (P : A → Type 0) → ((a b : A) → P a → P b → without_cycle (variant a) ≡ without_cycle (variant b)) → One (Tells variant P)
-tells_one variant P one e f x y = ap without_cycle x.1 ∙ one x.0 y.0 x.2 y.2 ∙ sym (ap without_cycle y.1)
+tells_one variant P one = λ e f x y. ap without_cycle x.1 ∙ one x.0 y.0 x.2 y.2 ∙ sym (ap without_cycle y.1)
 
 tells_same : {A : Type 0} (variant : A → Reject) (P : A → Type 0) → ((a b : A) → P a → P b → a ≡ b) → One (Tells variant P)
 tells_same variant P one = tells_one variant P (λ a b p q. ap (λ z. without_cycle (variant z)) (one a b p q))
 
 is_one : (a : Reject) (P : Type 0) → One (λ e. (e ≡ a) × P)
-is_one a P e f x y = ap without_cycle (x.0 ∙ sym y.0)
+is_one a P = λ e f x y. ap without_cycle (x.0 ∙ sym y.0)
 
 -- ---- the conditions in turn
 
@@ -184,7 +184,7 @@ module _ (p : Checked) (m : MemoryModel) (c : Candidate) where
   no_thread P h f each = f.1.broken (each f.1.place f.0 f.1.there)
 
   one_wrong : One WrongRun
-  one_wrong e f x y =
+  one_wrong = λ e f x y.
       let same : x.0 ≡ y.0 = one_thread (RunsWell p) c.threads x.0 y.0 x.1 y.1 in
       ap without_cycle (same_Some e f (sym x.2 ∙ ap (λ t. wrong_run t (run_told p t)) same ∙ y.2))
 

@@ -13,8 +13,8 @@ returns-in-Some-clause-broken c =
     let first = stages.orders_told (Some c.in-Some.cell) c.len.result ws k.co c.as_slice.result.now c.as_slice.ensures (sym c.first_bad_order.ensures ∙ c.in-Some.is) in
     λ m. ⊎_elim (λ e. subst (IsFirstBroken p m k) (sym e) tt) (λ e. subst (IsFirstBroken p m k) (sym e) (c.requires.sources, stages.orders_break p k ws c.len.result c.in-Some.cell c.requires.checked many c.requires.listed first)) c.bad_order.ensures
 
-pub returns-clause-ordered : goal.returns-clause-ordered
-returns-clause-ordered c =
+pub returns-in-None-clause-ordered : goal.returns-in-None-clause-ordered
+returns-in-None-clause-ordered c =
     let p = c.args.checked.now in
     let k = c.args.candidate.now in
     let ws = c.args.event_actions.now in
