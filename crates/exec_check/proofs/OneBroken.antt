@@ -57,21 +57,21 @@ abbrev Next : (Reject → Type 0) → Type 0 → (Reject → Type 0) → Reject 
 Next B C R e = B e ⊎ (C × R e)
 
 next : (B : Reject → Type 0) (C : Type 0) (R : Reject → Type 0) → ((e : Reject) → B e → C → ⊥) → One B → One R → One (Next B C R)
-next B C R no b r e f x y =
-    ⊎_elim (λ u. ⊎_elim (λ v. b e f u v) (λ v. absurd (no e u v.0)) y) (λ u. ⊎_elim (λ v. absurd (no f v u.0)) (λ v. r e f u.1 v.1) y) x
+next B C R apart b r =
+    λ e f x y. ⊎_elim (λ u. ⊎_elim (λ v. b e f u v) (λ v. absurd (apart e u v.0)) y) (λ u. ⊎_elim (λ v. absurd (apart f v u.0)) (λ v. r e f u.1 v.1) y) x
 
 -- the answer is of a variant with one field, of which P holds
 abbrev Tells : {A : Type 0} → (A → Reject) → (A → Type 0) → Reject → Type 0
 Tells {A = A} variant P e = (a : A) × (e ≡ variant a) × P a
 
 tells_one : {A : Type 0} (variant : A → Reject) (P : A → Type 0) → ((a b : A) → P a → P b → without_cycle (variant a) ≡ without_cycle (variant b)) → One (Tells variant P)
-tells_one variant P one e f x y = ap without_cycle x.1 ∙ one x.0 y.0 x.2 y.2 ∙ sym (ap without_cycle y.1)
+tells_one variant P one = λ e f x y. ap without_cycle x.1 ∙ one x.0 y.0 x.2 y.2 ∙ sym (ap without_cycle y.1)
 
 tells_same : {A : Type 0} (variant : A → Reject) (P : A → Type 0) → ((a b : A) → P a → P b → a ≡ b) → One (Tells variant P)
 tells_same variant P one = tells_one variant P (λ a b p q. ap (λ z. without_cycle (variant z)) (one a b p q))
 
 is_one : (a : Reject) (P : Type 0) → One (λ e. (e ≡ a) × P)
-is_one a P e f x y = ap without_cycle (x.0 ∙ sym y.0)
+is_one a P = λ e f x y. ap without_cycle (x.0 ∙ sym y.0)
 
 -- ---- the conditions in turn
 
@@ -184,43 +184,43 @@ module _ (p : Checked) (m : MemoryModel) (c : Candidate) where
   no_thread P h f each = f.1.broken (each f.1.place f.0 f.1.there)
 
   one_wrong : One WrongRun
-  one_wrong e f x y =
+  one_wrong = λ e f x y.
       let same : x.0 ≡ y.0 = one_thread (RunsWell p) c.threads x.0 y.0 x.1 y.1 in
       ap without_cycle (same_Some e f (sym x.2 ∙ ap (λ t. wrong_run t (run_told p t)) same ∙ y.2))
 
   one_blocks : One OfBlocks
   one_blocks =
-      next _ (NoCycle (Leaves m (execution_in p c))) OfFailing (λ e b h. b.2 h) (tells_one BlockCycle (λ l. ¬ NoCycle (Leaves m (execution_in p c))) (λ a b q r. refl)) (is_one NotFailing (Unit {0}))
+      next (Tells BlockCycle (λ l. ¬ NoCycle (Leaves m (execution_in p c)))) (NoCycle (Leaves m (execution_in p c))) OfFailing (λ e b h. b.2 h) (tells_one BlockCycle (λ l. ¬ NoCycle (Leaves m (execution_in p c))) (λ a b q r. refl)) (is_one NotFailing (Unit {0}))
 
   one_global : One OfGlobal
   one_global =
-      next _ (NoCycle (GlobalEdge m (execution_in p c))) OfBlocks (λ e b h. b.2 h) (tells_one GlobalCycle (λ l. ¬ NoCycle (GlobalEdge m (execution_in p c))) (λ a b q r. refl)) one_blocks
+      next (Tells GlobalCycle (λ l. ¬ NoCycle (GlobalEdge m (execution_in p c)))) (NoCycle (GlobalEdge m (execution_in p c))) OfBlocks (λ e b h. b.2 h) (tells_one GlobalCycle (λ l. ¬ NoCycle (GlobalEdge m (execution_in p c))) (λ a b q r. refl)) one_blocks
 
   one_local : One OfLocal
   one_local =
-      next _ (NoCycle (LocalEdge (execution_in p c))) OfGlobal (λ e b h. b.2 h) (tells_one LocalCycle (λ l. ¬ NoCycle (LocalEdge (execution_in p c))) (λ a b q r. refl)) one_global
+      next (Tells LocalCycle (λ l. ¬ NoCycle (LocalEdge (execution_in p c)))) (NoCycle (LocalEdge (execution_in p c))) OfGlobal (λ e b h. b.2 h) (tells_one LocalCycle (λ l. ¬ NoCycle (LocalEdge (execution_in p c))) (λ a b q r. refl)) one_global
 
   one_joins : One OfJoins
-  one_joins = next _ ((e : Event) → Joins e) OfLocal (λ e b h. b.2.broken (h b.0)) (tells_same BadJoin (FirstEvent Joins) (one_event Joins)) one_local
+  one_joins = next (Tells BadJoin (FirstEvent Joins)) ((e : Event) → Joins e) OfLocal (λ e b h. b.2.broken (h b.0)) (tells_same BadJoin (FirstEvent Joins) (one_event Joins)) one_local
 
   one_orders : One OfOrders
   one_orders =
       let P = HasOrder (shape p) (execution_in p c) in
-      next _ ((n : ℕ) → P n) OfJoins (λ e b h. b.2.broken (h b.0)) (tells_same BadOrder (FirstNumber P) (one_number P)) one_joins
+      next (Tells BadOrder (FirstNumber (HasOrder (shape p) (execution_in p c)))) ((n : ℕ) → P n) OfJoins (λ e b h. b.2.broken (h b.0)) (tells_same BadOrder (FirstNumber P) (one_number P)) one_joins
 
   one_sources : One OfSources
   one_sources =
       let P = IsSourced (shape p) (execution_in p c) in
-      next _ ((e : Event) → P e) OfOrders (λ e b h. b.2.broken (h b.0)) (tells_same BadSource (FirstEvent P) (one_event P)) one_orders
+      next (Tells BadSource (FirstEvent (IsSourced (shape p) (execution_in p c)))) ((e : Event) → P e) OfOrders (λ e b h. b.2.broken (h b.0)) (tells_same BadSource (FirstEvent P) (one_event P)) one_orders
 
   one_children : One OfChildren
   one_children =
-      next _ ((e : Event) → Children e) OfSources (λ e b h. b.2.3.broken (h b.2.0)) (tells_same NoThread (FirstChild (acting p c.threads)) (one_child (acting p c.threads))) one_sources
+      next (Tells NoThread (FirstChild (acting p c.threads))) ((e : Event) → Children e) OfSources (λ e b h. b.2.3.broken (h b.2.0)) (tells_same NoThread (FirstChild (acting p c.threads)) (one_child (acting p c.threads))) one_sources
 
   one_creates : One OfCreates
   one_creates =
       let P = IsCreated (acting p c.threads) in
-      next _ (EachThread P c.threads) OfChildren (λ e b h. no_thread P b.0 b.2 h) (tells_same NoCreate (FirstHandle P c.threads) (one_handle P c.threads)) one_children
+      next (Tells NoCreate (FirstHandle (IsCreated (acting p c.threads)) c.threads)) (EachThread P c.threads) OfChildren (λ e b h. no_thread P b.0 b.2 h) (tells_same NoCreate (FirstHandle P c.threads) (one_handle P c.threads)) one_children
 
   one_runs : One OfRuns
   one_runs = next WrongRun (EachThread (RunsWell p) c.threads) OfCreates (λ e b h. b.1.broken (h b.1.place b.0 b.1.there)) one_wrong one_creates
@@ -228,15 +228,15 @@ module _ (p : Checked) (m : MemoryModel) (c : Candidate) where
   one_known : One OfKnown
   one_known =
       let P = IsKnown (shape p) in
-      next _ (EachThread P c.threads) OfRuns (λ e b h. no_thread P b.0 b.2 h) (tells_same UnknownThread (FirstHandle P c.threads) (one_handle P c.threads)) one_runs
+      next (Tells UnknownThread (FirstHandle (IsKnown (shape p)) c.threads)) (EachThread P c.threads) OfRuns (λ e b h. no_thread P b.0 b.2 h) (tells_same UnknownThread (FirstHandle P c.threads) (one_handle P c.threads)) one_runs
 
   one_rising : One OfRising
   one_rising =
       let P = IsAboveAll c.threads in
-      next _ (EachThread P c.threads) OfKnown (λ e b h. no_thread P b.0 b.2 h) (tells_same ThreadTwice (FirstHandle P c.threads) (one_handle P c.threads)) one_known
+      next (Tells ThreadTwice (FirstHandle (IsAboveAll c.threads) c.threads)) (EachThread P c.threads) OfKnown (λ e b h. no_thread P b.0 b.2 h) (tells_same ThreadTwice (FirstHandle P c.threads) (one_handle P c.threads)) one_known
 
   one_told : One Told
-  one_told = next _ (HasMain (shape p) c.threads) OfRising (λ e b h. b.1 h) (is_one MainMissing (¬ HasMain (shape p) c.threads)) one_rising
+  one_told = next (λ e. (e ≡ MainMissing) × (¬ HasMain (shape p) c.threads)) (HasMain (shape p) c.threads) OfRising (λ e b h. b.1 h) (is_one MainMissing (¬ HasMain (shape p) c.threads)) one_rising
 
 pub one_broken_first : (p : Checked) (m : MemoryModel) (c : Candidate) (e f : Reject) → e ≢ OutOfMemory → f ≢ OutOfMemory → IsFirstBroken p m c e → IsFirstBroken p m c f → without_cycle e ≡ without_cycle f
 one_broken_first p m c e f n k b d = one_told p m c e f (tell p m c e n b) (tell p m c f k d)

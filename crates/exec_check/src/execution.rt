@@ -101,20 +101,19 @@ pub(crate) fn check_actions(
     check_joins(event_actions, done.threads.as_slice())
 }
 
-/// Whether the model allows an execution of the program whose threads did this.
+/// Whether the model allows an execution of the program whose threads have these actions.
 pub(crate) fn check_model(
     alloc: Global,
     checked: &Checked,
     model: MemoryModel,
     candidate: &Candidate,
-    done: &Done,
+    threads: &[ThreadActions],
 ) -> Result<(), Reject>
     requires whole { IsExecution checked.now candidate.now }
-    requires did { HasDone checked.now candidate.now.threads done.now }
+    requires seen { execution_seen threads.now candidate.now.rf candidate.now.co ≡ execution_in checked.now candidate.now }
     ensures allowed { OnOk result (Consistent model (execution_in checked.now candidate.now)) }
     ensures broken { IfErr result (IsFirstBroken checked.now model candidate.now) }
 {
-    let threads = done.threads.as_slice();
     let rf = candidate.rf.as_slice();
     match check_consistent(alloc, model, threads, rf, candidate.co.as_slice()) {
         Ok(()) => Ok(()),

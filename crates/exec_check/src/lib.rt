@@ -104,7 +104,7 @@ pub fn check_execution(
 {
     let done = threads::run_threads(alloc, checked, candidate.threads.as_slice())?;
     execution::check_actions(checked, candidate, &done)?;
-    execution::check_model(alloc, checked, model, candidate, &done)?;
+    execution::check_model(alloc, checked, model, candidate, done.threads.as_slice())?;
     match done.failing {
         Some(failing) => Ok(failing),
         None => Err(Reject::NotFailing),
