@@ -18,3 +18,5 @@ pub mod Told
 pub mod Framing
 pub mod Resuming
 pub mod Besides
+pub mod Using
+pub mod Used

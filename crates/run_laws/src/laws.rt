@@ -14,6 +14,7 @@ ghost use Rattle.run_laws.specs.Started.{StartedCreateFew, StartedIsShallow, Sta
 ghost use Rattle.run_laws.specs.Frames.{RunsAreFramed, ShortRunsAreFramed};
 ghost use Rattle.run_laws.specs.Short.{ShortRunsGoOn};
 ghost use Rattle.run_laws.specs.Turns.{HigherBoundsGoOn};
+ghost use Rattle.run_laws.specs.Bounded.{ScriptsAreBounded};
 
 /// What the check of a program has counted holds of its runs, without an execution: a run of a function
 /// that main leads to creates at most 63 threads, at most four creations lie between main and such a
@@ -44,6 +45,12 @@ pub fn runs_are_framed()
 /// run, 1 lets it open its section or join, any other makes it Bad; so does a bool above 1.
 pub fn short_runs_go_on()
     ensures { ShortRunsGoOn }
+{}
+
+/// The runs of a program use a bounded number of script numbers: on a script that is longer no run is
+/// short.
+pub fn scripts_are_bounded()
+    ensures { ScriptsAreBounded }
 {}
 
 /// For two bounds on loops, the run for the lower one is the run for the higher one, or spent its bound:

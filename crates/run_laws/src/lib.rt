@@ -7,13 +7,15 @@
 //! so these laws are of functions that main leads to (`specs/Started`), and through these of candidates.
 //!
 //! The other laws are of every run, of any program: where Start and End stand (`specs/Frames`), how a run
-//! goes on for which the script is too short (`specs/Short`), and the run for one bound on loops beside
-//! the run for another (`specs/Turns`). They share one induction over all forms (`proofs/Joint`), which relates two runs.
+//! goes on for which the script is too short (`specs/Short`), how many numbers runs use
+//! (`specs/Bounded`), and the run for one bound on loops beside the run for another (`specs/Turns`).
+//! But for the count of numbers they share one induction over all forms (`proofs/Joint`), which relates
+//! two runs.
 #![tactic(auto)]
 
 mod laws;
 
 pub use laws::{
-    creates_are_few, creates_differ, higher_bounds_go_on, runs_are_framed, short_runs_go_on,
-    started_creates_differ, started_threads_are_limited,
+    creates_are_few, creates_differ, higher_bounds_go_on, runs_are_framed, scripts_are_bounded,
+    short_runs_go_on, started_creates_differ, started_threads_are_limited,
 };
