@@ -16,3 +16,7 @@ pub mod JointMeaning
 pub mod JointBodies
 pub mod Told
 pub mod Framing
+pub mod Resuming
+pub mod Besides
+pub mod Using
+pub mod Used

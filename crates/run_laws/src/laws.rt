@@ -12,6 +12,9 @@ ghost use Rattle.run_model.specs.Threads.{thread_run};
 ghost use Rattle.run_model.specs.Laws.{CreatesFew, CreatesOnce};
 ghost use Rattle.run_laws.specs.Started.{StartedCreateFew, StartedIsShallow, StartedHandlesAreLow, StartedCreatesDiffer, CreatesDifferInARun};
 ghost use Rattle.run_laws.specs.Frames.{RunsAreFramed, ShortRunsAreFramed};
+ghost use Rattle.run_laws.specs.Short.{ShortRunsGoOn};
+ghost use Rattle.run_laws.specs.Turns.{HigherBoundsGoOn};
+ghost use Rattle.run_laws.specs.Bounded.{ScriptsAreBounded};
 
 /// What the check of a program has counted holds of its runs, without an execution: a run of a function
 /// that main leads to creates at most 63 threads, at most four creations lie between main and such a
@@ -35,6 +38,25 @@ pub fn started_creates_differ()
 pub fn runs_are_framed()
     ensures whole { RunsAreFramed }
     ensures short { ShortRunsAreFramed }
+{}
+
+/// Where a script is too short, the run on it with a number and any others behind it does first what it
+/// did on the script, and then what the number says: a read is made with it; 0 for a go number ends the
+/// run, 1 lets it open its section or join, any other makes it Bad; so does a bool above 1.
+pub fn short_runs_go_on()
+    ensures { ShortRunsGoOn }
+{}
+
+/// The runs of a program use a bounded number of script numbers: on a script that is longer no run is
+/// short.
+pub fn scripts_are_bounded()
+    ensures { ScriptsAreBounded }
+{}
+
+/// For two bounds on loops, the run for the lower one is the run for the higher one, or spent its bound:
+/// then its actions are the first ones of the other run, which used at least as many numbers.
+pub fn higher_bounds_go_on()
+    ensures { HigherBoundsGoOn }
 {}
 
 /// Each thread of a well made candidate of a checked program creates at most 63 threads.

@@ -4,11 +4,18 @@
 //! The check of a program counts what each thread comes to without running it (`c_check`'s `Counts`):
 //! both branches of a test, and a loop's body as often as it may turn. The laws say that the runs of
 //! `run_model` stay within that count. The limits count the threads that main leads to, and no others,
-//! so the laws are of functions that main leads to (`specs/Started`), and through these of candidates.
+//! so these laws are of functions that main leads to (`specs/Started`), and through these of candidates.
+//!
+//! The other laws are of every run, of any program: where Start and End stand (`specs/Frames`), how a run
+//! goes on for which the script is too short (`specs/Short`), how many numbers runs use
+//! (`specs/Bounded`), and the run for one bound on loops beside the run for another (`specs/Turns`).
+//! But for the count of numbers they share one induction over all forms (`proofs/Joint`), which relates
+//! two runs.
 #![tactic(auto)]
 
 mod laws;
 
 pub use laws::{
-    creates_are_few, creates_differ, runs_are_framed, started_creates_differ, started_threads_are_limited,
+    creates_are_few, creates_differ, higher_bounds_go_on, runs_are_framed, scripts_are_bounded,
+    short_runs_go_on, started_creates_differ, started_threads_are_limited,
 };
