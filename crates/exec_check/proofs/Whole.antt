@@ -122,6 +122,7 @@ program_allows p m c h ok =
     }
 
 pub program_fails : (p : Checked) (m : MemoryModel) (c : Candidate) (f : Failing) → IsExecution p c → Consistent m (execution_in p c) → told_failing p c.threads ≡ Some f → ProgramFails p m c
+unfolding program_allows
 program_fails p m c f h ok e =
     let r = (told p c.threads f e).first in
     record {

@@ -102,7 +102,7 @@ pub fn check_execution(
     ensures first { IfOk result (λ f. FailsFirst candidate.now (runs_of checked.now candidate.now.threads) f.handle f.place f.bound) }
     ensures broken { IfErr result (IsFirstBroken checked.now model candidate.now) }
 {
-    let done = threads::run_threads(alloc, checked, candidate.threads.as_slice())?;
+    let done = threads::run_candidate(alloc, checked, candidate)?;
     execution::check_actions(checked, candidate, &done)?;
     execution::check_model(alloc, checked, model, candidate, done.threads.as_slice())?;
     match done.failing {

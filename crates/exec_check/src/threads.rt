@@ -1,12 +1,13 @@
 //! Threads alone: which there are, how they run, and who creates whom.
 
 ghost use Rattle.std.specs.Prelude.{◌≡◌, IfOk, IfErr, OnOk};
+ghost use Rattle.axiom_model.specs.declared.MemoryModel.{MemoryModel};
 ghost use Rattle.c_check.specs.declared.checked.Checked.{Checked};
 ghost use Rattle.c_check.specs.WellFormed.{IsChecked};
 ghost use Rattle.exec_check.specs.declared.Reject.TheVariants as reject;
 ghost use Rattle.exec_check.specs.Running.{acting};
 ghost use Rattle.exec_check.specs.Conditions.{HasRuns, HasCreates, HasChildren};
-ghost use Rattle.exec_check.specs.Broken.{ThreadsBreak};
+ghost use Rattle.exec_check.specs.Broken.{ThreadsBreak, IsFirstBroken};
 ghost use Rattle.exec_check.specs.EventActions as specs;
 ghost use Rattle.exec_check.specs.EventActions.{ListsActions};
 ghost use Rattle.exec_check.specs.Done.{HasDone};
@@ -16,7 +17,7 @@ use crate::event_actions::{EventAction, event_actions};
 use crate::parts::check_parts;
 use crate::runs::run_all;
 use crate::{Failing, Reject};
-use axiom_model::ThreadPart;
+use axiom_model::{Candidate, ThreadPart};
 use c_check::Checked;
 use consistency::ThreadActions;
 use dg_base::List;
@@ -66,13 +67,9 @@ fn check_children(event_actions: &[EventAction], parts: &[ThreadPart]) -> Result
     }
 }
 
-/// What threads do that may be those of an execution: main is there, handles rise, each function is known, each thread runs
-/// well and is created, and no other is.
-pub(crate) fn run_threads(
-    alloc: Global,
-    checked: &Checked,
-    parts: &[ThreadPart],
-) -> Result<Done, Reject>
+// What threads do that may be those of an execution: main is there, handles rise, each function is known, each thread runs
+// well and is created, and no other is.
+fn run_threads(alloc: Global, checked: &Checked, parts: &[ThreadPart]) -> Result<Done, Reject>
     requires { IsChecked checked.now }
     ensures children { OnOk result (HasChildren checked.now parts.now) }
     ensures did { IfOk result (HasDone checked.now parts.now) }
@@ -88,6 +85,20 @@ pub(crate) fn run_threads(
         event_actions,
         failing: runs.failing,
     })
+}
+
+/// What a candidate's threads do.
+pub(crate) fn run_candidate(
+    alloc: Global,
+    checked: &Checked,
+    candidate: &Candidate,
+) -> Result<Done, Reject>
+    requires { IsChecked checked.now }
+    ensures children { OnOk result (HasChildren checked.now candidate.now.threads) }
+    ensures did { IfOk result (HasDone checked.now candidate.now.threads) }
+    ensures broken { (m : MemoryModel) → IfErr result (IsFirstBroken checked.now m candidate.now) }
+{
+    run_threads(alloc, checked, candidate.threads.as_slice())
 }
 
 /// Whether threads may be those of an execution of the program, whatever their reads' sources and the writes' orders are: main

@@ -2,33 +2,20 @@ use Rattle.std.proofs.Common.{◌≡◌, refl, sym, subst, ◌∙◌}
 use Rattle.std.proofs.lemmas.Result.{err_from_is_err_and}
 use Rattle.consistency.specs.Seen.{execution_seen}
 use Rattle.exec_check.specs.Running.{execution_in}
-use Rattle.exec_check.specs.Conditions.{HasChildren}
-use Rattle.exec_check.specs.Done.{HasDone}
-use Rattle.exec_check.specs.Broken.{ThreadsBreak}
 use Rattle.exec_check.proofs.Ran.{none_fails}
 use Rattle.exec_check.proofs.Whole.{program_fails, first_to_fail, seen_is}
-use Rattle.exec_check.proofs.Stages.{threads_break}
 use Rattle.exec_check.proofs.check_execution.Goals as goal
-
-pub returns-in_err-done-clause-broken : goal.returns-in_err-done-clause-broken
-returns-in_err-done-clause-broken c =
-    let p = c.args.checked.now in
-    let k = c.args.candidate.now in
-    let e = err_from_is_err_and c.from_residual.result c.from_residual.ensures.1 in
-    rw (e.1, e.2) (threads_break p c.args.model k _ (subst (λ ts. ThreadsBreak p ts _) c.as_slice.ensures c.in_err-done.ensures.broken))
-
-pub check_actions-requires-clause-children : goal.check_actions-requires-clause-children
-check_actions-requires-clause-children c = subst (HasChildren c.args.checked.now) c.as_slice.ensures c.in_ok-done.ensures.children
-
-pub check_actions-requires-clause-did : goal.check_actions-requires-clause-did
-check_actions-requires-clause-did c = subst (λ ts. HasDone c.args.checked.now ts c.in_ok-done.done) c.as_slice.ensures c.in_ok-done.ensures.did
 
 pub check_model-requires-clause-seen : goal.check_model-requires-clause-seen
 check_model-requires-clause-seen c =
     let p = c.args.checked.now in
     let k = c.args.candidate.now in
-    let done = subst (λ ts. HasDone p ts c.in_ok-done.done) c.as_slice.ensures c.in_ok-done.ensures.did in
-    subst (λ ts. execution_seen ts k.rf k.co ≡ execution_in p k) (sym c.as_slice-2.ensures) (seen_is p k k.threads c.in_ok-done.done.threads refl done.seen)
+    subst (λ ts. execution_seen ts k.rf k.co ≡ execution_in p k) (sym c.as_slice.ensures) (seen_is p k k.threads c.in_ok-done.done.threads refl c.in_ok-done.ensures.did.seen)
+
+pub returns-in_err-done-clause-broken : goal.returns-in_err-done-clause-broken
+returns-in_err-done-clause-broken c =
+    let e = err_from_is_err_and c.from_residual.result c.from_residual.ensures.1 in
+    rw (e.1, e.2) (c.in_err-done.ensures.broken c.args.model)
 
 pub returns-in_err-check_actions-clause-broken : goal.returns-in_err-check_actions-clause-broken
 returns-in_err-check_actions-clause-broken c =
@@ -37,21 +24,12 @@ returns-in_err-check_actions-clause-broken c =
 
 pub returns-in-Some-clause-fails : goal.returns-in-Some-clause-fails
 returns-in-Some-clause-fails c =
-    let p = c.args.checked.now in
-    let k = c.args.candidate.now in
-    let done = subst (λ ts. HasDone p ts c.in_ok-done.done) c.as_slice.ensures c.in_ok-done.ensures.did in
-    program_fails p c.args.model k c.in-Some.failing c.in_ok-check_actions.ensures.whole c.in_ok-check_model.ensures.allowed (sym done.failing ∙ c.in-Some.is)
+    program_fails c.args.checked.now c.args.model c.args.candidate.now c.in-Some.failing c.in_ok-check_actions.ensures.whole c.in_ok-check_model.ensures.allowed (sym c.in_ok-done.ensures.did.failing ∙ c.in-Some.is)
 
 pub returns-in-Some-clause-first : goal.returns-in-Some-clause-first
 returns-in-Some-clause-first c =
-    let p = c.args.checked.now in
-    let k = c.args.candidate.now in
-    let done = subst (λ ts. HasDone p ts c.in_ok-done.done) c.as_slice.ensures c.in_ok-done.ensures.did in
-    first_to_fail p k c.in-Some.failing (sym done.failing ∙ c.in-Some.is)
+    first_to_fail c.args.checked.now c.args.candidate.now c.in-Some.failing (sym c.in_ok-done.ensures.did.failing ∙ c.in-Some.is)
 
 pub returns-clause-broken : goal.returns-clause-broken
 returns-clause-broken c =
-    let p = c.args.checked.now in
-    let k = c.args.candidate.now in
-    let done = subst (λ ts. HasDone p ts c.in_ok-done.done) c.as_slice.ensures c.in_ok-done.ensures.did in
-    (c.in_ok-check_actions.ensures.whole, c.in_ok-check_model.ensures.allowed, none_fails p k.threads (sym done.failing ∙ c.in-None.is))
+    (c.in_ok-check_actions.ensures.whole, c.in_ok-check_model.ensures.allowed, none_fails c.args.checked.now c.args.candidate.now.threads (sym c.in_ok-done.ensures.did.failing ∙ c.in-None.is))
