@@ -1,32 +1,32 @@
 -- The run for a bound on loops is the run for a higher one, or spent its bound before.
-use Rattle.std.proofs.Common.{◌≡◌, ℕ, zero, suc, ◌+◌, ◌-◌, ◌*◌, ◌≤◌, List, [], ◌∷◌, ◌++◌, Option, Some, None, Bool, true, false, ◌⊎◌, refl, sym, ap, ◌∙◌, subst, append_assoc, append-nil, ⊎_elim, inl, inr, arith}
+use Rattle.std.proofs.Common.{◌≡◌, ℕ, ◌+◌, ◌*◌, ◌≤◌, List, [], ◌∷◌, Option, Some, None, Bool, true, false, refl, sym, subst, append_assoc, ⊎_elim, inl, inr, arith}
 use Rattle.std.specs.Prelude.{cond, nat_eq, length, slice_get}
 use Rattle.std.proofs.lemmas.Option.{same_Some}
 use Rattle.dg_base.specs.declared.Place.{Place}
-use Rattle.axiom_model.specs.declared.Action.{Action}
 use Rattle.axiom_model.specs.declared.Action.TheVariants as action
 use Rattle.c_tree.specs.declared.program.Function.{Function}
 use Rattle.c_tree.specs.declared.program.Program.{Program}
 use Rattle.c_rules.specs.Names.{functions_of}
 use Rattle.c_check.specs.declared.checked.Checked.{Checked}
 use Rattle.run_model.specs.declared.state.Ending.{Ending}
-use Rattle.run_model.specs.declared.state.Ending.TheVariants.{Stopped, Failed, Bound, Bad}
+use Rattle.run_model.specs.declared.state.Ending.TheVariants.{Stopped, Bound, Bad}
 use Rattle.run_model.specs.declared.state.Flow.{Flow}
 use Rattle.run_model.specs.declared.state.Halt.TheVariants.{Over, Short}
 use Rattle.run_model.specs.declared.state.Need.{Need}
 use Rattle.run_model.specs.declared.state.Need.TheVariants.{Any}
 use Rattle.run_model.specs.declared.state.Slot.{Slot}
 use Rattle.run_model.specs.declared.state.Slot.TheVariants.{Own, Common}
-use Rattle.run_model.specs.Steps.{State, Outcome, Goes, Halts, Step, go_on, ◌>>=◌, ◌>>◌, pure, make, take_from, take_number, begin_section, end_section, stop, fail}
+use Rattle.run_model.specs.Steps.{State, Outcome, Goes, Halts, Step, go_on, pure, make, take_from, take_number, begin_section, end_section, stop, fail}
 use Rattle.run_model.specs.Cells.{read, write, slot}
 use Rattle.run_model.specs.Calls.{Setting, no_other, spend, finish, lock_cell, unlock_cell, exit_thread, any_bool, create, join, function_in}
-use Rattle.run_model.specs.Programs.{setting_of, shared_of}
+use Rattle.run_model.specs.Programs.{shared_of}
 use Rattle.run_model.specs.Threads.{run_body, context_within, thread_steps, thread_outcome, outcome_of, begins}
-use Rattle.run_model.proofs.Kept.{Keeps, IsPlain, kept_stop, kept_fail, kept_spend, kept_begin, kept_finish_section, kept_read, kept_write, kept_slot, kept_lock, kept_unlock, kept_exit, kept_bool, kept_join, kept_finish}
+use Rattle.run_model.proofs.Kept.{Keeps, kept_stop, kept_fail, kept_begin, kept_finish_section, kept_read, kept_write, kept_slot, kept_lock, kept_unlock, kept_exit, kept_bool, kept_join, kept_finish}
 use Rattle.run_laws.specs.Short.{IsBehind, actions_in}
 use Rattle.run_laws.specs.Turns.{IsSpent, used_in, SpentBefore, Beside}
 use Rattle.run_laws.proofs.Joint.{Two, one, two, anything, Leaves, no_values, no_values_closed, Ok, ok_any, Relation, Passes, Relates}
 use Rattle.run_laws.proofs.JointBodies.{thread_body_meets}
+use Rattle.run_laws.proofs.Resuming.{behind_both, behind_same}
 
 -- ---- steps only add
 
@@ -36,12 +36,6 @@ Grown s o = IsBehind s.actions (actions_in o) × (s.used ≤ used_in o)
 
 abbrev Growing : (A : Type 0) → Step A → Type 0
 Growing A m = (s : State) → Grown s (m s)
-
-behind_both : (xs ys zs : List Action) → IsBehind xs ys → IsBehind ys zs → IsBehind xs zs
-behind_both xs ys zs one two = (one.0 ++ two.0, two.1 ∙ ap (λ acts. acts ++ two.0) one.1 ∙ append_assoc xs one.0 two.0)
-
-behind_same : (xs : List Action) → IsBehind xs xs
-behind_same xs = ([], sym (append-nil xs))
 
 grown_both : {A : Type 0} (s t : State) (o : Outcome A) → IsBehind s.actions t.actions → s.used ≤ t.used → Grown t o → Grown s o
 grown_both s t o b u h = (behind_both s.actions t.actions (actions_in o) b h.0, omega (arith, u, h.1))

@@ -7,10 +7,10 @@ use Rattle.axiom_model.specs.declared.Action.{Action}
 use Rattle.axiom_model.specs.declared.Action.TheVariants as action
 use Rattle.axiom_model.specs.Failing.{Run}
 use Rattle.c_check.specs.declared.checked.Checked.{Checked}
+use Rattle.c_check.proofs.PlainNames.{all_append}
 use Rattle.c_rules.specs.Names.{Name}
 use Rattle.run_model.specs.declared.state.Ending.{Ending}
-use Rattle.run_model.specs.declared.state.Ending.TheVariants.{Ended, Stopped, Failed, Bound, Bad}
-use Rattle.run_model.specs.declared.state.Flow.{Flow}
+use Rattle.run_model.specs.declared.state.Ending.TheVariants.{Stopped, Bound, Bad}
 use Rattle.run_model.specs.declared.state.Halt.TheVariants.{Over, Short}
 use Rattle.run_model.specs.declared.state.Need.{Need}
 use Rattle.run_model.specs.declared.state.Need.TheVariants.{ReadOf, Go, Truth, Any}
@@ -18,14 +18,13 @@ use Rattle.run_model.specs.declared.state.Shared.{Shared}
 use Rattle.run_model.specs.declared.state.Slot.{Slot}
 use Rattle.run_model.specs.declared.state.Slot.TheVariants.{Own, Common}
 use Rattle.run_model.specs.Steps.{State, Outcome, Goes, Halts, Step, go_on, ◌>>=◌, ◌>>◌, pure, nothing, change, ends, make, take_from, take_number, obey, ask, outside, open_section, begin_section, end_section, stop, fail}
-use Rattle.run_model.specs.Cells.{read, write, slot, slot_in, slot_in_shared, shared_named, local_named, cells_at}
-use Rattle.run_model.specs.Calls.{Setting, spend, hold, lock_cell, unlock_cell, finish, exit_thread, any_bool, create, join, function_in}
+use Rattle.run_model.specs.Cells.{read, write, slot, slot_in, slot_in_shared, shared_named, local_named}
+use Rattle.run_model.specs.Calls.{Setting, hold, lock_cell, unlock_cell, finish, exit_thread, any_bool, create, join, function_in}
 use Rattle.run_model.specs.Programs.{setting_of}
-use Rattle.run_model.specs.Threads.{ShortRun, has_ended, run_body, context_within, thread_steps, thread_run, short_run, begins}
+use Rattle.run_model.specs.Threads.{ShortRun, has_ended, run_body, context_within, thread_run, short_run}
 use Rattle.run_model.proofs.Handles.{state_in}
 use Rattle.run_laws.specs.Frames.{IsInner, last_of, IsFramed}
-use Rattle.run_laws.specs.Constants.{in_functions}
-use Rattle.run_laws.proofs.Joint.{Two, one, two, anything, no_values, no_values_closed, Ok, ok_any, Relation, Relates}
+use Rattle.run_laws.proofs.Joint.{one, two, anything, no_values, no_values_closed, Ok, ok_any, Relation, Relates}
 use Rattle.run_laws.proofs.JointBodies.{thread_body_meets}
 use Rattle.run_laws.proofs.Told.{twice, started, Ran, RanShort, ran, ran_short}
 
@@ -46,10 +45,6 @@ record Framed (end : List Action) (s t : State) : Type 0 where
 abbrev Frames : (A : Type 0) → Step A → Type 0
 Frames A m = (s : State) → Framed (tail (m s)) s (state_in (m s))
 
-all_inner : (xs ys : List Action) → AllByRecursion IsInner xs → AllByRecursion IsInner ys → AllByRecursion IsInner (xs ++ ys)
-all_inner [] ys h i = i
-all_inner (x ∷ xs) ys h i = (h.0, all_inner xs ys h.1 i)
-
 none_made : (s t : State) → t.actions ≡ s.actions → Framed [] s t
 none_made s t e = record { made = []; actions = e ∙ sym (append-nil s.actions); inner = tt }
 
@@ -59,7 +54,7 @@ both_made end s t u one two = record {
   actions =
       two.actions ∙ ap (λ xs. xs ++ (two.made ++ end)) (one.actions ∙ ap (λ xs. s.actions ++ xs) (append-nil one.made)) ∙ append_assoc s.actions one.made (two.made ++ end)
       ∙ ap (λ xs. s.actions ++ xs) (sym (append_assoc one.made two.made end));
-  inner = all_inner one.made two.made one.inner two.inner;
+  inner = all_append IsInner one.made two.made one.inner two.inner;
 }
 
 then_framed : (A B : Type 0) (f : A → Step B) (s : State) → ((a : A) → Frames B (f a)) → (o : Outcome A) → Framed (tail o) s (state_in o) → Framed (tail (go_on o f)) s (state_in (go_on o f))

@@ -1,6 +1,6 @@
 -- A relation of steps that the parts of two runs have, the two runs have: an induction over all forms. The runs are of one
 -- program, of a thread with one handle, for two bounds on loops. A property of one run is a relation that looks at the left side.
-use Rattle.std.proofs.Common.{◌≡◌, ℕ, ◌+◌, ◌≤◌, List, [], ◌∷◌, ◌++◌, Option, Bool, true, false, ◌⊎◌, take}
+use Rattle.std.proofs.Common.{◌≡◌, ℕ, ◌≤◌, List, [], ◌∷◌, ◌++◌, Option, Bool, true, false, ◌⊎◌, take}
 use Rattle.std.specs.Prelude.{cond, replicate}
 use Rattle.std.specs.List.{Contains}
 use Rattle.std.proofs.lemmas.List.Elements.{Contains-append_left, Contains-append_right}
@@ -18,7 +18,7 @@ use Rattle.run_model.specs.declared.state.Shared.{Shared}
 use Rattle.run_model.specs.declared.state.Need.TheVariants.{Any}
 use Rattle.run_model.specs.declared.state.Slot.{Slot}
 use Rattle.run_model.specs.declared.state.Slot.TheVariants.{Own}
-use Rattle.run_model.specs.Steps.{State, Outcome, Goes, Halts, Step, ◌>>=◌, ◌>>◌, pure, nothing, look, change, make, take_number, begin_section, end_section, stop, fail}
+use Rattle.run_model.specs.Steps.{Outcome, Goes, Halts, Step, ◌>>=◌, ◌>>◌, pure, nothing, look, change, make, take_number, begin_section, end_section, stop, fail}
 use Rattle.run_model.specs.Cells.{read, write, slot}
 use Rattle.run_model.specs.Calls.{Setting, no_other, spend, function_in, lock_cell, unlock_cell, exit_thread, any_bool, create, join}
 use Rattle.run_model.specs.Threads.{parameters}

@@ -1,5 +1,5 @@
 -- What the parts of two runs relate, statements, calls of functions and bodies do.
-use Rattle.std.proofs.Common.{◌≡◌, ℕ, zero, suc, ◌+◌, ◌≤◌, List, [], ◌∷◌, ◌++◌, Option, Some, None, ◌⊎◌, map, length, take, refl, sym, ap, subst, ⊎_elim, inl, inr, arith}
+use Rattle.std.proofs.Common.{◌≡◌, ℕ, zero, suc, ◌+◌, ◌≤◌, List, [], ◌∷◌, ◌++◌, Option, Some, None, ◌⊎◌, map, length, take, refl, sym, subst, ⊎_elim, inl, inr, arith}
 use Rattle.std.specs.Prelude.{slice_get, replicate, cond}
 use Rattle.dg_base.specs.declared.Place.{Place}
 use Rattle.dg_base.specs.Values.{is_true}
@@ -22,11 +22,11 @@ use Rattle.run_model.specs.declared.state.Flow.{Flow}
 use Rattle.run_model.specs.declared.state.Flow.TheVariants.{Next, Broke, Continued, Returned}
 use Rattle.run_model.specs.declared.state.Need.TheVariants.{Any}
 use Rattle.run_model.specs.declared.state.Slot.TheVariants.{Own}
-use Rattle.run_model.specs.Steps.{Step, ◌>>=◌, ◌>>◌, pure, nothing, look, change, take_number, begin_section, end_section, stop}
+use Rattle.run_model.specs.Steps.{Step, ◌>>=◌, ◌>>◌, pure, nothing, look, change, take_number, begin_section, end_section}
 use Rattle.run_model.specs.Cells.{write}
-use Rattle.run_model.specs.Calls.{Setting, Context, spend}
+use Rattle.run_model.specs.Calls.{Context, spend}
 use Rattle.run_model.specs.Meaning.{eval}
-use Rattle.run_model.specs.Statements.{then_next, scoped, leaves, unless_left, after_body, loop, do_loop, first_values, store_from, enter, declare_one, declare_all, eval_if, begin_for, turns, stmt_step, execute, execute_all}
+use Rattle.run_model.specs.Statements.{then_next, scoped, after_body, loop, do_loop, first_values, store_from, enter, declare_one, declare_all, eval_if, begin_for, turns, stmt_step, execute, execute_all}
 use Rattle.run_model.specs.Threads.{parameters, result_of, run_body, is_atomic, in_section, call_body, with_function, call_within, context_within}
 use Rattle.run_laws.specs.Constants.{in_all, constants, in_option, in_start, in_declarators, in_for, stmt_constants, in_stmt, in_body, in_functions}
 use Rattle.run_laws.proofs.Joint.{Two, one, two, Values, anything, Words, Leaves, Known, known_left, known_right, Closed, Relation, Passes, Relates, both_then, both_nothing, both_look, both_cond}

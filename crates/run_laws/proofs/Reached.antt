@@ -1,5 +1,5 @@
 -- Each thread of a well made candidate runs a started function.
-use Rattle.std.proofs.Common.{◌≡◌, ◌≢◌, ℕ, zero, suc, ◌+◌, ◌<◌, ◌≤◌, List, [], ◌∷◌, Option, Some, None, length, sym, ap, ◌∙◌, subst, ⊎_elim, arith}
+use Rattle.std.proofs.Common.{◌≡◌, ◌≢◌, ℕ, zero, suc, ◌<◌, ◌≤◌, List, Option, Some, None, sym, ap, ◌∙◌, subst, ⊎_elim, arith}
 use Rattle.std.specs.Prelude.{slice_get}
 use Rattle.std.specs.List.{AllZip}
 use Rattle.std.proofs.lemmas.Bool.{cases_eq}
@@ -13,7 +13,6 @@ use Rattle.axiom_model.specs.Execution.{Thread, action_at}
 use Rattle.axiom_model.specs.WellMade.{WellMade}
 use Rattle.axiom_model.specs.Failing.{Run, RunsTo, thread_of, threads_of, execution_of}
 use Rattle.axiom_model.proofs.Threads.{Acts, acts_from, one_thread, RunsIts, threads_of-runs, part_of_run}
-use Rattle.c_rules.specs.Names.{functions_of}
 use Rattle.c_check.specs.declared.checked.Checked.{Checked}
 use Rattle.c_check.specs.WellFormed.{IsChecked}
 use Rattle.run_model.specs.Programs.{shape_of}

@@ -9,7 +9,7 @@ use Rattle.c_rules.specs.Names.{Name}
 use Rattle.c_tree.specs.declared.program.Function.{Function}
 use Rattle.c_check.specs.declared.checked.Checked.{Checked}
 use Rattle.run_model.specs.declared.state.Ending.{Ending}
-use Rattle.run_model.specs.declared.state.Ending.TheVariants.{Ended, Stopped, Failed, Bound, Bad}
+use Rattle.run_model.specs.declared.state.Ending.TheVariants.{Ended, Stopped, Failed, Bad}
 use Rattle.run_model.specs.declared.state.Flow.{Flow}
 use Rattle.run_model.specs.declared.state.Halt.TheVariants.{Over, Short}
 use Rattle.run_model.specs.declared.state.Local.{Local}
@@ -18,21 +18,21 @@ use Rattle.run_model.specs.declared.state.Need.TheVariants.{ReadOf, Go, Truth, A
 use Rattle.run_model.specs.declared.state.Shared.{Shared}
 use Rattle.run_model.specs.declared.state.Slot.{Slot}
 use Rattle.run_model.specs.declared.state.Slot.TheVariants.{Own, Common}
-use Rattle.run_model.specs.Steps.{State, Outcome, Goes, Halts, Step, go_on, ◌>>=◌, ◌>>◌, pure, nothing, change, ends, make, take_number, ask, outside, open_section, begin_section, end_section, stop, fail}
+use Rattle.run_model.specs.Steps.{State, Outcome, Goes, Halts, Step, go_on, ◌>>=◌, ◌>>◌, pure, nothing, change, ends, make, take_number, ask, outside, open_section, stop, fail}
 use Rattle.run_model.specs.Cells.{read, write, slot, slot_in, slot_in_shared, shared_named, local_named, cells_at}
 use Rattle.run_model.specs.Calls.{Setting, spend, hold, lock_cell, unlock_cell, finish, exit_thread, any_bool, create, join, function_in}
 use Rattle.run_model.specs.Programs.{setting_of}
 use Rattle.run_model.specs.Threads.{ShortRun, run_body, context_within, thread_steps, thread_outcome, outcome_of, short_run, begins}
 use Rattle.run_model.proofs.Scripts.{with_script}
 use Rattle.run_laws.specs.Short.{IsBehind, IsWaited, actions_in, EndsAs, Obeys, Chooses, Follows}
-use Rattle.run_laws.proofs.Joint.{Two, one, anything, no_values, no_values_closed, Relation, Relates}
+use Rattle.run_laws.proofs.Joint.{one, anything, no_values, no_values_closed, Relation, Relates}
 use Rattle.run_laws.proofs.JointBodies.{thread_body_meets}
-use Rattle.run_laws.proofs.Told.{twice, started, RanShort, ran_short}
+use Rattle.run_laws.proofs.Told.{twice, RanShort, ran_short}
 
-behind_both : (xs ys zs : List Action) → IsBehind xs ys → IsBehind ys zs → IsBehind xs zs
+pub behind_both : (xs ys zs : List Action) → IsBehind xs ys → IsBehind ys zs → IsBehind xs zs
 behind_both xs ys zs one two = (one.0 ++ two.0, two.1 ∙ ap (λ acts. acts ++ two.0) one.1 ∙ append_assoc xs one.0 two.0)
 
-behind_same : (xs : List Action) → IsBehind xs xs
+pub behind_same : (xs : List Action) → IsBehind xs xs
 behind_same xs = ([], sym (append-nil xs))
 
 -- ---- what a step does on a script, and on a longer one

@@ -1,5 +1,5 @@
 -- What is told of a run is told of the outcome of its steps.
-use Rattle.std.proofs.Common.{◌≡◌, ℕ, List, [], ◌∷◌, Option, Some, None, refl, ap}
+use Rattle.std.proofs.Common.{◌≡◌, ℕ, List, [], ◌∷◌, Option, Some, None, refl}
 use Rattle.std.specs.Prelude.{slice_get}
 use Rattle.std.proofs.lemmas.Option.{same_Some}
 use Rattle.axiom_model.specs.declared.Action.TheVariants.{Start}
@@ -9,7 +9,7 @@ use Rattle.c_check.specs.declared.checked.Checked.{Checked}
 use Rattle.run_model.specs.declared.state.Ending.{Ending}
 use Rattle.run_model.specs.declared.state.Halt.TheVariants.{Over, Short}
 use Rattle.run_model.specs.declared.state.Need.{Need}
-use Rattle.run_model.specs.Steps.{State, Outcome, Goes, Halts, Step}
+use Rattle.run_model.specs.Steps.{State, Outcome, Goes, Halts}
 use Rattle.run_model.specs.Calls.{Setting}
 use Rattle.run_model.specs.Programs.{setting_of}
 use Rattle.run_model.specs.Threads.{ShortRun, thread_steps, thread_run, short_run, outcome_of, run_in, run_with, short_in, begins}

@@ -19,22 +19,21 @@ use Rattle.c_tree.specs.declared.stmt.Stmt.{Stmt, fold-roll-Stmt, ind-Stmt, map-
 use Rattle.c_tree.specs.declared.stmt.Stmt.TheOpen.{Stmt-F}
 use Rattle.c_tree.specs.declared.stmt.Stmt.TheViews.{roll-Stmt}
 use Rattle.c_tree.specs.declared.program.Function.{Function}
-use Rattle.c_tree.specs.Operators.{word_unsigned, unary_op, unary_unsigned, binary_unsigned}
+use Rattle.c_tree.specs.Operators.{word_unsigned, unary_op}
 use Rattle.c_rules.specs.declared.builtin.Builtin.{Builtin}
 use Rattle.c_rules.specs.Names.{Name, builtin_named, functions_of}
 use Rattle.c_check.specs.Limits.{cell_count}
 use Rattle.c_check.specs.declared.checked.Checked.{Checked}
 use Rattle.run_model.specs.declared.state.Flow.{Flow}
 use Rattle.run_model.specs.declared.state.Flow.TheVariants.{Next, Broke, Continued, Returned}
-use Rattle.run_model.specs.declared.state.Halt.TheVariants.{Over}
 use Rattle.run_model.specs.declared.state.Local.{Local}
 use Rattle.run_model.specs.declared.state.Need.TheVariants.{Any}
 use Rattle.run_model.specs.declared.state.Slot.{Slot}
 use Rattle.run_model.specs.declared.state.Slot.TheVariants.{Own}
-use Rattle.run_model.specs.Steps.{State, Outcome, Halts, Step, ◌>>=◌, ◌>>◌, pure, nothing, look, change, make, take_number, begin_section, end_section, in_turn}
+use Rattle.run_model.specs.Steps.{State, Outcome, Step, ◌>>=◌, ◌>>◌, pure, nothing, look, change, make, take_number, begin_section, end_section, in_turn}
 use Rattle.run_model.specs.Cells.{read, write, slot}
-use Rattle.run_model.specs.Calls.{Meaning, Context, spend, finish, function_named, no_argument, argument, builtin_call}
-use Rattle.run_model.specs.Meaning.{value, lvalue, binary, count, call, call_builtin, runs_of, expr_step, meaning, eval}
+use Rattle.run_model.specs.Calls.{Meaning, Context, spend, finish, function_named, argument}
+use Rattle.run_model.specs.Meaning.{value, lvalue, count, call, call_builtin, runs_of, expr_step, meaning, eval}
 use Rattle.run_model.specs.Statements.{then_next, scoped, turns, first_values, store_from, enter, declare_one, declare_all, eval_if, begin_for, stmt_step, execute, execute_all}
 use Rattle.run_model.specs.Programs.{setting_of}
 use Rattle.run_model.specs.Threads.{parameters, result_of, run_body, is_atomic, in_section, call_body, with_function, call_within, context_within, thread_steps, ShortRun, begins}

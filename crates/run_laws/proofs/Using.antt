@@ -1,6 +1,6 @@
 -- Steps use at most so many numbers of the script.
-use Rattle.std.proofs.Common.{◌≡◌, ℕ, zero, suc, ◌+◌, ◌-◌, ◌*◌, ◌≤◌, List, [], ◌∷◌, ◌++◌, Option, Some, None, Bool, true, false, map, length, take, refl, sym, subst, arith}
-use Rattle.std.specs.Prelude.{cond, nat_eq, nat_lt, slice_get, replicate}
+use Rattle.std.proofs.Common.{ℕ, zero, suc, ◌+◌, ◌-◌, ◌≤◌, List, [], ◌∷◌, Option, Some, None, Bool, true, false, length, arith}
+use Rattle.std.specs.Prelude.{cond, nat_eq, nat_lt}
 use Rattle.dg_base.specs.declared.Place.{Place}
 use Rattle.dg_base.specs.Values.{is_true, truth_of, value_of}
 use Rattle.axiom_model.specs.declared.Action.{Action}
@@ -9,7 +9,7 @@ use Rattle.c_tree.specs.declared.expr.BinaryOp.{BinaryOp}
 use Rattle.c_tree.specs.declared.expr.StepOp.{StepOp}
 use Rattle.c_tree.specs.declared.expr.AssignOp.{AssignOp}
 use Rattle.c_tree.specs.declared.expr.AssignOp.TheVariants.{Plain, With}
-use Rattle.c_tree.specs.Operators.{settles, step_op, unary_op, binary_op}
+use Rattle.c_tree.specs.Operators.{settles, step_op, binary_op}
 use Rattle.c_rules.specs.declared.builtin.Builtin.{Builtin}
 use Rattle.c_rules.specs.declared.builtin.Builtin.TheVariants as b
 use Rattle.c_rules.specs.Names.{Name}

@@ -1,5 +1,5 @@
--- The integer constants of functions. A text's are words, but a tree might hold any number.
-use Rattle.std.specs.Prelude.{ℕ, ◌<◌, ◌^◌, List, [], ◌∷◌, ◌++◌, map, Option, Some, None, Contains}
+-- The integer constants of functions.
+use Rattle.std.specs.Prelude.{ℕ, List, [], ◌∷◌, ◌++◌, map, Option, Some, None}
 use Rattle.c_tree.specs.declared.expr.Expr.{Expr, fold-Expr}
 use Rattle.c_tree.specs.declared.expr.Expr.TheOpen.{Expr-F}
 use Rattle.c_tree.specs.declared.stmt.Initialiser.{Initialiser}
@@ -10,8 +10,6 @@ use Rattle.c_tree.specs.declared.stmt.Start.TheVariants as start
 use Rattle.c_tree.specs.declared.stmt.Stmt.{Stmt, fold-Stmt}
 use Rattle.c_tree.specs.declared.stmt.Stmt.TheOpen.{Stmt-F}
 use Rattle.c_tree.specs.declared.program.Function.{Function}
-use Rattle.c_tree.specs.declared.program.Program.{Program}
-use Rattle.c_rules.specs.Names.{functions_of}
 
 abbrev pub in_all : List (List ℕ) → List ℕ
 in_all [] = []
@@ -86,7 +84,3 @@ in_body f = in_all (map in_stmt f.body)
 abbrev pub in_functions : List Function → List ℕ
 in_functions [] = []
 in_functions (f ∷ fs) = in_body f ++ in_functions fs
-
--- each constant in the functions of a program is a word
-abbrev pub HasWordConstants : Program → Type 0
-HasWordConstants program = (v : ℕ) → Contains (in_functions (functions_of program.items)) v → v < 2 ^ 32

@@ -5,11 +5,10 @@ use Rattle.axiom_model.specs.declared.Action.TheVariants.{Read, Open, Join}
 use Rattle.c_check.specs.declared.checked.Checked.{Checked}
 use Rattle.run_model.specs.declared.state.Ending.{Ending}
 use Rattle.run_model.specs.declared.state.Ending.TheVariants.{Stopped, Bad}
-use Rattle.run_model.specs.declared.state.Halt.{Halt}
 use Rattle.run_model.specs.declared.state.Halt.TheVariants.{Over}
 use Rattle.run_model.specs.declared.state.Need.{Need}
 use Rattle.run_model.specs.declared.state.Need.TheVariants.{ReadOf, Go, Truth, Any}
-use Rattle.run_model.specs.Steps.{State, Outcome, Goes, Halts}
+use Rattle.run_model.specs.Steps.{Outcome, Goes, Halts}
 use Rattle.run_model.specs.Threads.{ShortRun, thread_outcome, short_run}
 
 -- the actions with others behind them

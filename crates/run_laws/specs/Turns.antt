@@ -1,6 +1,5 @@
 -- The run for a bound on loops beside the run for a higher one.
-use Rattle.std.specs.Prelude.{◌≡◌, ℕ, ◌≤◌, List, ◌++◌, Bool, true, false, Some, ◌⊎◌}
-use Rattle.axiom_model.specs.declared.Action.{Action}
+use Rattle.std.specs.Prelude.{◌≡◌, ℕ, ◌≤◌, List, Bool, true, false, Some, ◌⊎◌}
 use Rattle.c_check.specs.declared.checked.Checked.{Checked}
 use Rattle.run_model.specs.declared.state.Ending.{Ending}
 use Rattle.run_model.specs.declared.state.Ending.TheVariants.{Stopped, Bound, Bad}
