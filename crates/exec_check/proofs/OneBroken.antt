@@ -1,22 +1,20 @@
 -- Two first broken conditions of one candidate are one, but for the cycle shown.
-use Rattle.std.proofs.Common.{◌≡◌, ◌≢◌, ℕ, ◌<◌, List, length, true, Some, refl, sym, ap, ◌∙◌, subst, ⊎_elim, inl, inr}
+use Rattle.std.proofs.Common.{◌≡◌, ◌≢◌, ℕ, List, Some, refl, sym, ap, ◌∙◌, ⊎_elim, inl, inr}
 use Rattle.std.specs.Prelude.{slice_get, ◌⊎◌}
 use Rattle.std.proofs.lemmas.Bool.{cases_order}
 use Rattle.std.proofs.lemmas.Option.{same_Some}
 use Rattle.axiom_model.specs.declared.Action.TheVariants.{Create}
 use Rattle.axiom_model.specs.declared.Event.{Event}
-use Rattle.axiom_model.specs.declared.Event.TheVariants.{Initial, At}
 use Rattle.axiom_model.specs.declared.MemoryModel.{MemoryModel}
 use Rattle.axiom_model.specs.declared.ThreadPart.{ThreadPart}
 use Rattle.axiom_model.specs.declared.Candidate.{Candidate}
 use Rattle.axiom_model.specs.Cycles.{NoCycle}
 use Rattle.axiom_model.specs.Execution.{Execution, action_at}
-use Rattle.axiom_model.specs.Failing.{Run}
-use Rattle.axiom_model.specs.Models.{Consistent, LocalEdge, GlobalEdge, Leaves}
+use Rattle.axiom_model.specs.Models.{LocalEdge, GlobalEdge, Leaves}
 use Rattle.c_check.specs.declared.checked.Checked.{Checked}
 use Rattle.exec_check.specs.declared.Reject.{Reject}
 use Rattle.exec_check.specs.declared.Reject.TheVariants.{MainMissing, ThreadTwice, UnknownThread, ScriptShort, ScriptLong, BadRun, NoCreate, NoThread, BadSource, BadOrder, BadJoin, LocalCycle, GlobalCycle, BlockCycle, NotFailing, OutOfMemory}
-use Rattle.exec_check.specs.First.{EachThread, FirstThread, FirstHandle, Below, FirstEvent, FirstNumber}
+use Rattle.exec_check.specs.First.{EachThread, FirstThread, FirstHandle, FirstEvent, FirstNumber}
 use Rattle.exec_check.specs.Running.{run_told, acting, execution_in, shape}
 use Rattle.exec_check.specs.Conditions.{HasMain, IsAboveAll, IsKnown, RunsWell, IsCreated, AtAction, HasItsThread, IsSourced, HasOrder, JoinsAnEnded, HasThreads, HasRuns, HasCreates, HasChildren, HasSources, HasOrders, IsExecution}
 use Rattle.exec_check.specs.Broken.{FirstChild, IsFirstBroken, without_cycle}

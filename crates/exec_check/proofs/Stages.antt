@@ -8,7 +8,7 @@ use Rattle.axiom_model.specs.declared.MemoryModel.{MemoryModel}
 use Rattle.axiom_model.specs.declared.RfPair.{RfPair}
 use Rattle.axiom_model.specs.declared.ThreadPart.{ThreadPart}
 use Rattle.axiom_model.specs.declared.Candidate.{Candidate}
-use Rattle.axiom_model.specs.Execution.{Thread, action_at}
+use Rattle.axiom_model.specs.Execution.{Thread}
 use Rattle.c_check.specs.declared.checked.CellInfo.{CellInfo}
 use Rattle.c_check.specs.declared.checked.Checked.{Checked}
 use Rattle.c_check.specs.WellFormed.{IsChecked}

@@ -1,5 +1,5 @@
 -- The actions of an execution with their events.
-use Rattle.std.specs.Prelude.{ℕ, ◌+◌, List, [], ◌∷◌, ◌++◌, Bool, true, false, ◌&&◌, ◌||◌, nat_eq, nat_lt, ◌≡◌, ◌<◌, Option, Some, slice_get}
+use Rattle.std.specs.Prelude.{ℕ, ◌+◌, List, [], ◌∷◌, ◌++◌, Bool, true, false, ◌&&◌, ◌||◌, nat_eq, nat_lt, ◌≡◌, ◌<◌, Some, slice_get}
 use Rattle.axiom_model.specs.declared.Action.{Action}
 use Rattle.axiom_model.specs.declared.Event.{Event}
 use Rattle.axiom_model.specs.declared.Event.TheVariants.{Initial, At}
