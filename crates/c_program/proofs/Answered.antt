@@ -1,5 +1,5 @@
 -- A text that has no refusal is accepted: each rule holds, or is first broken somewhere.
-use Rattle.std.proofs.Common.{◌≡◌, ◌≢◌, ℕ, zero, suc, ◌<◌, Bool, List, [], ◌∷◌, ◌++◌, append_assoc, Option, Some, None, Result, Ok, Err, refl, sym, subst, ◌∙◌, arith, ⊎_elim, inl, inr}
+use Rattle.std.proofs.Common.{◌≡◌, ◌≢◌, ℕ, zero, suc, ◌<◌, Bool, List, [], ◌∷◌, ◌++◌, append_assoc, Option, Some, None, Result, Ok, Err, refl, subst, ◌∙◌, arith, ⊎_elim, inl, inr}
 use Rattle.std.specs.Prelude.{◌⊎◌}
 use Rattle.dg_base.specs.declared.Place.{Place}
 use Rattle.dg_base.specs.declared.refusal.Refusal.{Refusal}
@@ -12,13 +12,13 @@ use Rattle.c_tree.specs.declared.program.Item.{Item}
 use Rattle.c_tree.specs.declared.program.Program.{Program}
 use Rattle.c_expr.specs.Parser.{place_of}
 use Rattle.c_stmt.specs.Programs.{BeginsProgram, HasCause, IsLongestStart, ReadsProgram, no_item}
-use Rattle.c_rules.specs.Naming.{HasMain, DeclaresOnce, KnowsNames, IsNamed}
+use Rattle.c_rules.specs.Naming.{HasMain, DeclaresOnce, IsNamed}
 use Rattle.c_rules.specs.Scopes.{first_duplicate, first_unknown}
 use Rattle.c_rules.specs.Types.{first_bad_type}
 use Rattle.c_rules.specs.Typing.{IsTyped}
 use Rattle.c_check.specs.declared.checked.Checked.{Checked}
 use Rattle.c_check.specs.Checked.{function_names, cells_of}
-use Rattle.c_check.specs.Limits.{Limited, exceeds}
+use Rattle.c_check.specs.Limits.{exceeds}
 use Rattle.c_check.specs.Recursion.{Calls, Leads, NoRecursion, IsFirstRecursive, at_once, over}
 use Rattle.c_check.specs.Sections.{first_unmatched}
 use Rattle.c_check.specs.WellFormed.{MatchesSections, IsNotRecursive, IsFirstRefusal, IsWellFormed, IsBound}

@@ -1,14 +1,12 @@
 -- Which answers of a job there are, and what follows for the status.
-use Rattle.std.proofs.Common.{arith, ◌≡◌, ◌≢◌, ◌↔◌, ℕ, Bool, List, [], ◌∷◌, Some, None, Result, Ok, Err, IfOk, sym, subst, ◌∙◌}
-use Rattle.dg_base.specs.declared.Place.{Place}
+use Rattle.std.proofs.Common.{arith, ◌≡◌, ◌≢◌, ◌↔◌, ℕ, List, Some, None, Result, Ok, Err, IfOk, sym, ◌∙◌}
 use Rattle.dg_base.specs.declared.outside.Trouble.{Trouble}
-use Rattle.dg_base.specs.declared.refusal.Refusal.{Refusal}
 use Rattle.dg_base.proofs.Lists.{not_none}
 use Rattle.axiom_model.specs.declared.MemoryModel.{MemoryModel}
 use Rattle.c_check.specs.declared.checked.Checked.{Checked}
 use Rattle.dg_top.specs.declared.reply.Reply.{Reply}
 use Rattle.dg_top.specs.declared.settings.Settings.{Settings}
-use Rattle.dg_top.specs.Answers.{Answer, BadWitness, BadWords, Failing, IsAnswer, IsReplay, IsVerdict, LongFile, NotYet, Refused, Rejected, Safe, Unsafe, bad_witness, failing, not_yet, refused, rejected, replayed, safe, status_of, unsafe, verified}
+use Rattle.dg_top.specs.Answers.{Answer, BadWords, IsAnswer, IsReplay, IsVerdict, LongFile, bad_witness, failing, not_yet, refused, rejected, replayed, safe, status_of, unsafe, verified}
 use Rattle.dg_top.specs.Replies.{IsOneOf, Spells}
 use Rattle.dg_top.specs.Settings.{settings_of}
 

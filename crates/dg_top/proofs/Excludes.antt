@@ -1,5 +1,5 @@
 -- Safe and Unsafe exclude each other, and the witness of an unsafe program is a failing execution of it.
-use Rattle.std.proofs.Common.{◌≡◌, ◌≢◌, ℕ, Bool, List, [], ◌∷◌, Some, None, map, refl, sym, ap, subst, ◌∙◌}
+use Rattle.std.proofs.Common.{◌≡◌, ◌≢◌, ℕ, Bool, List, [], ◌∷◌, Some, map, refl, sym, subst, ◌∙◌}
 use Rattle.dg_base.specs.declared.Place.{Place}
 use Rattle.dg_base.specs.declared.outside.FileEntry.{FileEntry}
 use Rattle.dg_base.specs.Outside.{contents}
@@ -14,7 +14,7 @@ use Rattle.witness_text.specs.Spelling.{Spells}
 use Rattle.c_program.specs.Accepting.{IsAccepted, OneChecked}
 use Rattle.dg_top.specs.declared.settings.Settings.{Settings}
 use Rattle.dg_top.specs.Answers.{Allowed, Answer, BadWitness, BadWords, Failing, IsAnswer, IsAnswerOf, IsReplay, IsVerdict, LongFile, NotYet, Refused, Rejected, Safe, Unsafe, answer, bad_witness, bad_words, failing, job_done, long_file, not_yet, refused, rejected, replayed, safe, unsafe, verified}
-use Rattle.dg_top.specs.Laws.{SafeExcludesUnsafe, UnsafeIsReplayed, replaying}
+use Rattle.dg_top.specs.Laws.{SafeExcludesUnsafe, UnsafeIsReplayed}
 use Rattle.dg_top.specs.Settings.{files_of, settings_of}
 
 -- ---- an answer that the words' job gives of its texts
