@@ -1,0 +1,5 @@
+pub mod Bytes
+pub mod Digits
+pub mod Reading
+pub mod Texts
+pub mod Worded
