@@ -1,0 +1,2 @@
+mod Scripts
+pub mod Steps
