@@ -1,6 +1,6 @@
 -- Gates one behind another, and words of them bit by bit.
-use Rattle.std.proofs.Common.{◌≡◌, ℕ, ◌+◌, ◌-◌, ◌*◌, ◌%◌, ◌^◌, ◌<◌, ◌≤◌, Bool, true, false, not, ◌&&◌, ◌||◌, List, [], ◌∷◌, ◌++◌, map, length, take, drop, set, get_or, refl, ap, sym, ◌∙◌, subst, arith}
-use Rattle.std.specs.Prelude.{All, Contains, replicate}
+use Rattle.std.proofs.Common.{◌≡◌, ℕ, ◌+◌, ◌-◌, ◌*◌, ◌/◌, ◌%◌, ◌^◌, ◌<◌, ◌≤◌, Bool, true, false, not, ◌&&◌, ◌||◌, List, [], ◌∷◌, ◌++◌, map, length, take, drop, set, get_or, refl, ap, sym, ◌∙◌, subst, arith}
+use Rattle.std.specs.Prelude.{All, Contains, replicate, nat_eq, bit_and}
 use Rattle.std.proofs.lemmas.List.{take_all, length-set, length-replicate}
 use Rattle.std.proofs.lemmas.List.Elements.{All-set, All-weaker, All-get_or, All-replicate, Contains-append_left}
 use Rattle.dg_base.specs.declared.Lit.{Lit}
@@ -12,6 +12,7 @@ use Rattle.cnf_problem.proofs.LiteralLaws.{value-negated}
 use Rattle.cnf_problem.proofs.GateLaws.{extends_self, extends_steps, gate_of_older}
 use Rattle.bit_gates.specs.Words.{number, IsWordOver, Spells, IsWordGate}
 use Rattle.bit_gates.proofs.Numbers.{number_written}
+use Rattle.bit_gates.proofs.Arith.{constant_step}
 
 -- what makes the newer clauses true makes the older ones true
 pub older : (f g : Formula) (s : List Bool) → Extends f g → AreSatisfied s g.clauses → AreSatisfied s f.clauses
@@ -91,3 +92,27 @@ all_made f g w p q far same = record {
   exact = λ s h. let long = far.long in ap (number s) (sym (take_all 32 w (omega arith))) ∙ far.exact s h ∙ same s;
   extends = far.extends;
 }
+
+-- a constant, bit by bit
+pub constant_none : (f : Formula) (n : ℕ) (always : Lit) → IsOver f.vars always → SoFar f f (replicate 32 always) 0 (λ _. n % 2 ^ 0)
+constant_none f n always over = none_so_far f always (λ _. n % 2 ^ 0) over (λ s. omega arith)
+
+pub constant_more : (f : Formula) (w : List Lit) (n i : ℕ) (l : Lit) (bit : Bool) → i < 32 → bit ≡ nat_eq (bit_and (n / 2 ^ i) 1) 1 → IsOver f.vars l → HasValue f.clauses l (λ _. bit)
+    → SoFar f f w i (λ _. n % 2 ^ i) → SoFar f f (set w i l) (i + 1) (λ _. n % 2 ^ (i + 1))
+constant_more f w n i l bit within e over exact far =
+    one_more f f f w i l (λ _. n % 2 ^ i) (λ _. n % 2 ^ (i + 1)) (λ _. bit) within far (gate_of_older f l (λ _. bit) over exact)
+    (λ s sat. ap (λ b. n % 2 ^ i + 2 ^ i * truth_of b) e ∙ constant_step n i)
+
+pub constant_made : (f : Formula) (w : List Lit) (n i : ℕ) → i ≡ 32 → n < 2 ^ 32 → SoFar f f w i (λ _. n % 2 ^ i) → Spells f.clauses w (λ _. n)
+constant_made f w n i e fits far s sat =
+    let long = far.long in
+    let small : n % 2 ^ 32 ≡ n = omega arith in
+    ap (number s) (sym (take_all i w (omega arith))) ∙ far.exact s sat ∙ ap (λ k. n % 2 ^ k) e ∙ small
+
+-- the lowest bit of a word that spells 0, written
+pub first_written : (f : Formula) (w : List Lit) (l : Lit) → length w ≡ 32 → Spells f.clauses w (λ _. 0) → Spells f.clauses (set w 0 l) (λ s. truth_of (value s l))
+first_written f [] l long zero s sat = absurd (omega arith)
+first_written f (x ∷ xs) l long zero s sat =
+    let e : truth_of (value s x) + 2 * number s xs ≡ 0 = zero s sat in
+    let rest : number s xs ≡ 0 = omega arith in
+    omega arith

@@ -47,8 +47,8 @@ pub fn inverted(word: &Word) -> Word
     ensures { result ≡ map negation word.now }
 {
     let mut inverse = *word;
-    for lit in &mut inverse {
-        *lit = negated(*lit);
+    for i in 0..32 {
+        inverse[i] = negated(word[i]);
     }
     inverse
 }

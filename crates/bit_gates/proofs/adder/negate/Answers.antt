@@ -1,0 +1,6 @@
+use Rattle.bit_gates.proofs.Choices.{ok_as}
+use Rattle.bit_gates.proofs.Sums.{from_zero}
+use Rattle.bit_gates.proofs.adder.negate.Goals as goal
+
+pub returns : goal.returns
+returns c = ok_as c.subtract.result _ _ c.subtract.ensures (λ w gate. from_zero _ _ w _ _ c.constant_word-zero.ensures.exact gate)

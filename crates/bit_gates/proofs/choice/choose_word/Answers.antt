@@ -1,0 +1,12 @@
+use Rattle.std.proofs.Common.{arith}
+use Rattle.bit_gates.proofs.Choices.{choice_none, choice_more, choice_made}
+use Rattle.bit_gates.proofs.choice.choose_word.Goals as goal
+
+pub loop-i-init : goal.loop-i-init
+loop-i-init c = choice_none _ c.args.a.now c.args.b.now c.args.c _ c.constant.ensures.over
+
+pub loop-i-preserved : goal.loop-i-preserved
+loop-i-preserved c = choice_more _ _ _ _ _ _ _ _ _ _ _ c.loop-i-test.true c.requires.first.0 c.requires.second.0 c.loop-i.invariant c.in_ok-word.ensures
+
+pub returns : goal.returns
+returns c = choice_made _ _ _ _ _ _ c.loop-i.i (omega arith) c.requires.first.0 c.requires.second.0 c.loop-i.invariant

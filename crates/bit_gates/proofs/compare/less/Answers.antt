@@ -1,0 +1,12 @@
+use Rattle.std.proofs.Common.{arith}
+use Rattle.bit_gates.proofs.Choices.{less_none, less_more, less_made}
+use Rattle.bit_gates.proofs.compare.less.Goals as goal
+
+pub loop-i-init : goal.loop-i-init
+loop-i-init c = less_none _ c.args.a.now c.args.b.now _ c.constant-less.ensures.over c.constant-less.ensures.exact
+
+pub loop-i-preserved : goal.loop-i-preserved
+loop-i-preserved c = less_more _ _ _ _ _ _ _ _ _ _ c.loop-i-test.true c.requires.first.0 c.requires.second.0 c.loop-i.invariant c.in_ok-less.ensures
+
+pub returns : goal.returns
+returns c = less_made _ _ _ _ _ c.loop-i.i (omega arith) c.requires.first.0 c.requires.second.0 c.loop-i.invariant
