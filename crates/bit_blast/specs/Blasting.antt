@@ -4,11 +4,11 @@ use Rattle.dg_base.specs.declared.Lit.{Lit}
 use Rattle.dg_base.specs.declared.operators.Op.{Op}
 use Rattle.dg_base.specs.Values.{operator}
 use Rattle.bv_term.specs.declared.term.Term.{Term}
-use Rattle.bv_term.specs.declared.term.Term.TheVariants.{Input}
+use Rattle.bv_term.specs.declared.term.Term.TheVariants.{Input, Constant, Apply}
 use Rattle.bv_term.specs.Values.{AreWords, value as term_value}
 use Rattle.cnf_problem.specs.Literals.{AreSatisfied}
 use Rattle.cnf_problem.specs.Formulas.{Formula, Extension}
-use Rattle.bit_gates.specs.Words.{number, IsWordOver, IsWordGate}
+use Rattle.bit_gates.specs.Words.{number, IsWordOver, IsWordGate, AddsWord}
 
 -- the literals of a term, by its number
 abbrev pub word_at : List (List Lit) → ℕ → List Lit
@@ -45,3 +45,9 @@ pub record Blasts (old new : Formula) (terms : List Term) (words : List (List Li
 -- a word that spells the operator's value of three words
 abbrev pub IsOperatorGate : Formula → Formula → Op → List Lit → List Lit → List Lit → List Lit → Type 0
 IsOperatorGate old new op a b c w = IsWordGate old new w (λ s. operator op (number s a) (number s b) (number s c))
+
+-- what the word of a term is, behind the words of those before it
+abbrev pub IsTermWord : Formula → Formula → List (List Lit) → Term → List Lit → Type 0
+IsTermWord old new words Input w = AddsWord old new w
+IsTermWord old new words (Constant v) w = IsWordGate old new w (λ s. v)
+IsTermWord old new words (Apply op a b c) w = IsOperatorGate old new op (word_at words a.0) (word_at words b.0) (word_at words c.0) w

@@ -8,10 +8,11 @@ ghost use Rattle.bit_blast.specs.Blasting.{Blasts};
 
 mod operators;
 mod signed;
-mod term;
+mod term_words;
 
+use crate::term_words::term_word;
 use bit_gates::Word;
-use bv_term::{Terms};
+use bv_term::Terms;
 use cnf_problem::Gates;
 use dg_base::{List, OutOfMemory};
 use std::alloc::Global;
@@ -27,8 +28,9 @@ pub fn blast(alloc: Global, terms: &Terms, gates: &mut Gates) -> Result<Bits, Ou
     ensures { IfOk result (λ b. Blasts gates.old gates.new terms.now b.words) }
 {
     let mut words = List::new(alloc);
-    for term in terms.as_slice() {
-        let word = term::term_word(gates, *term, words.as_slice())?;
+    let list = terms.as_slice();
+    for term in list {
+        let word = term_word(gates, *term, words.as_slice())?;
         words.push(word)?;
     }
     Ok(Bits { words })

@@ -1,5 +1,6 @@
 // The word of each operator.
-ghost use Rattle.std.specs.Prelude.{◌≡◌, IfOk};
+ghost use Rattle.std.specs.Prelude.{◌≡◌, List, IfOk};
+ghost use Rattle.dg_base.specs.declared.Lit.{Lit};
 ghost use Rattle.dg_base.specs.Values.{Arithmetic, Bits, Division, Logic, OrderInt, OrderUint, Shift, group};
 ghost use Rattle.bit_gates.specs.Words.{IsWordOver};
 ghost use Rattle.bit_blast.specs.Blasting.{IsOperatorGate};
@@ -30,7 +31,12 @@ pub(crate) fn operator_word(gates: &mut Gates, op: Op, a: &Word, b: &Word, c: &W
     }
 }
 
-fn arithmetic(gates: &mut Gates, op: Op, a: &Word, b: &Word) -> Result<Word, OutOfMemory> {
+fn arithmetic(gates: &mut Gates, op: Op, a: &Word, b: &Word) -> Result<Word, OutOfMemory>
+    requires kind { group op ≡ Arithmetic }
+    requires first { IsWordOver gates.old.vars a.now }
+    requires second { IsWordOver gates.old.vars b.now }
+    ensures { IfOk result (λ w. (c : List Lit) → IsOperatorGate gates.old gates.new op a.now b.now c w) }
+{
     match op {
         Op::Plus => {
             let carry = gates.constant(false);
@@ -43,7 +49,12 @@ fn arithmetic(gates: &mut Gates, op: Op, a: &Word, b: &Word) -> Result<Word, Out
     }
 }
 
-fn division(gates: &mut Gates, op: Op, a: &Word, b: &Word) -> Result<Word, OutOfMemory> {
+fn division(gates: &mut Gates, op: Op, a: &Word, b: &Word) -> Result<Word, OutOfMemory>
+    requires kind { group op ≡ Division }
+    requires first { IsWordOver gates.old.vars a.now }
+    requires second { IsWordOver gates.old.vars b.now }
+    ensures { IfOk result (λ w. (c : List Lit) → IsOperatorGate gates.old gates.new op a.now b.now c w) }
+{
     match op {
         Op::DivideInt => divide_int(gates, a, b),
         Op::DivideUint => Ok(divide(gates, a, b)?.quotient),
@@ -52,7 +63,12 @@ fn division(gates: &mut Gates, op: Op, a: &Word, b: &Word) -> Result<Word, OutOf
     }
 }
 
-fn shift(gates: &mut Gates, op: Op, a: &Word, b: &Word) -> Result<Word, OutOfMemory> {
+fn shift(gates: &mut Gates, op: Op, a: &Word, b: &Word) -> Result<Word, OutOfMemory>
+    requires kind { group op ≡ Shift }
+    requires first { IsWordOver gates.old.vars a.now }
+    requires second { IsWordOver gates.old.vars b.now }
+    ensures { IfOk result (λ w. (c : List Lit) → IsOperatorGate gates.old gates.new op a.now b.now c w) }
+{
     match op {
         Op::ShiftLeft => shift_left(gates, a, b),
         Op::ShiftRightInt => shift_right(gates, a, b, a[31]),
@@ -63,7 +79,12 @@ fn shift(gates: &mut Gates, op: Op, a: &Word, b: &Word) -> Result<Word, OutOfMem
     }
 }
 
-fn order_int(gates: &mut Gates, op: Op, a: &Word, b: &Word) -> Result<Word, OutOfMemory> {
+fn order_int(gates: &mut Gates, op: Op, a: &Word, b: &Word) -> Result<Word, OutOfMemory>
+    requires kind { group op ≡ OrderInt }
+    requires first { IsWordOver gates.old.vars a.now }
+    requires second { IsWordOver gates.old.vars b.now }
+    ensures { IfOk result (λ w. (c : List Lit) → IsOperatorGate gates.old gates.new op a.now b.now c w) }
+{
     let lit = match op {
         Op::LessInt => less_int(gates, a, b)?,
         Op::AtMostInt => negated(less_int(gates, b, a)?),
@@ -73,7 +94,12 @@ fn order_int(gates: &mut Gates, op: Op, a: &Word, b: &Word) -> Result<Word, OutO
     Ok(flag(gates, lit))
 }
 
-fn order_uint(gates: &mut Gates, op: Op, a: &Word, b: &Word) -> Result<Word, OutOfMemory> {
+fn order_uint(gates: &mut Gates, op: Op, a: &Word, b: &Word) -> Result<Word, OutOfMemory>
+    requires kind { group op ≡ OrderUint }
+    requires first { IsWordOver gates.old.vars a.now }
+    requires second { IsWordOver gates.old.vars b.now }
+    ensures { IfOk result (λ w. (c : List Lit) → IsOperatorGate gates.old gates.new op a.now b.now c w) }
+{
     let lit = match op {
         Op::LessUint => less(gates, a, b)?,
         Op::AtMostUint => negated(less(gates, b, a)?),
@@ -83,7 +109,12 @@ fn order_uint(gates: &mut Gates, op: Op, a: &Word, b: &Word) -> Result<Word, Out
     Ok(flag(gates, lit))
 }
 
-fn bits(gates: &mut Gates, op: Op, a: &Word, b: &Word) -> Result<Word, OutOfMemory> {
+fn bits(gates: &mut Gates, op: Op, a: &Word, b: &Word) -> Result<Word, OutOfMemory>
+    requires kind { group op ≡ Bits }
+    requires first { IsWordOver gates.old.vars a.now }
+    requires second { IsWordOver gates.old.vars b.now }
+    ensures { IfOk result (λ w. (c : List Lit) → IsOperatorGate gates.old gates.new op a.now b.now c w) }
+{
     match op {
         Op::Equal => {
             let lit = equal(gates, a, b)?;
@@ -100,7 +131,13 @@ fn bits(gates: &mut Gates, op: Op, a: &Word, b: &Word) -> Result<Word, OutOfMemo
     }
 }
 
-fn logic(gates: &mut Gates, op: Op, a: &Word, b: &Word, c: &Word) -> Result<Word, OutOfMemory> {
+fn logic(gates: &mut Gates, op: Op, a: &Word, b: &Word, c: &Word) -> Result<Word, OutOfMemory>
+    requires kind { group op ≡ Logic }
+    requires first { IsWordOver gates.old.vars a.now }
+    requires second { IsWordOver gates.old.vars b.now }
+    requires third { IsWordOver gates.old.vars c.now }
+    ensures { IfOk result (IsOperatorGate gates.old gates.new op a.now b.now c.now) }
+{
     match op {
         Op::LogicNot => {
             let lit = any(gates, a)?;

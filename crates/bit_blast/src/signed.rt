@@ -1,7 +1,8 @@
 // Words that are read in two's complement.
-ghost use Rattle.std.specs.Prelude.{◌≡◌, IfOk, int_lt};
+ghost use Rattle.std.specs.Prelude.{◌≡◌, ◌+◌, ◌-◌, ◌%◌, ◌^◌, ◌<◌, ℕ, List, Bool, length, IfOk, int_lt, if◌then◌else◌};
 ghost use Rattle.dg_base.specs.Values.{int_of, quotient_int, remainder_int};
 ghost use Rattle.bit_gates.specs.Words.{number, IsWordOver, IsWordGate};
+ghost use Rattle.cnf_problem.specs.Literals.{value, IsOver};
 ghost use Rattle.cnf_problem.specs.Formulas.{IsGate};
 
 use bit_gates::{Word, choose_word, divide, less, negate};
@@ -9,7 +10,11 @@ use cnf_problem::{Gates, negated};
 use dg_base::{Lit, OutOfMemory};
 
 // The word with its sign bit flipped: the order of such words is that of the numbers read in two's complement.
-fn flipped(word: &Word) -> Word {
+fn flipped(word: &Word) -> Word
+    requires { length word.now ≡ 32 }
+    ensures over { (vars : ℕ) → IsWordOver vars word.now → IsWordOver vars result }
+    ensures exact { (s : List Bool) → number s result ≡ (number s word.now + 2 ^ 31) % 2 ^ 32 }
+{
     let mut flipped = *word;
     flipped[31] = negated(word[31]);
     flipped
@@ -25,7 +30,11 @@ pub(crate) fn less_int(gates: &mut Gates, a: &Word, b: &Word) -> Result<Lit, Out
 }
 
 // The word taken from 0 where the literal is true.
-fn negate_if(gates: &mut Gates, sign: Lit, a: &Word) -> Result<Word, OutOfMemory> {
+fn negate_if(gates: &mut Gates, sign: Lit, a: &Word) -> Result<Word, OutOfMemory>
+    requires choice { IsOver gates.old.vars sign }
+    requires word { IsWordOver gates.old.vars a.now }
+    ensures { IfOk result (λ w. IsWordGate gates.old gates.new w (λ s. if value s sign then (2 ^ 32 - number s a.now) % 2 ^ 32 else number s a.now)) }
+{
     let negative = negate(gates, a)?;
     choose_word(gates, sign, &negative, a)
 }

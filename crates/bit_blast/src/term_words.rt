@@ -1,0 +1,26 @@
+// The word of one term.
+ghost use Rattle.std.specs.Prelude.{length, All, IfOk};
+ghost use Rattle.bv_term.specs.Values.{IsBehind};
+ghost use Rattle.bit_gates.specs.Words.{IsWordOver};
+ghost use Rattle.bit_blast.specs.Blasting.{IsTermWord};
+
+use crate::operators::operator_word;
+use bit_gates::{Word, constant_word, input_word};
+use bv_term::Term;
+use cnf_problem::Gates;
+use dg_base::OutOfMemory;
+
+// The word of a term behind those of the terms before it.
+pub(crate) fn term_word(gates: &mut Gates, term: Term, words: &[Word]) -> Result<Word, OutOfMemory>
+    requires behind { IsBehind (length words.now) term }
+    requires over { All (IsWordOver gates.old.vars) words.now }
+    ensures { IfOk result (IsTermWord gates.old gates.new words.now term) }
+{
+    match term {
+        Term::Input => input_word(gates),
+        Term::Constant(value) => Ok(constant_word(gates, value)),
+        Term::Apply(op, a, b, c) => {
+            operator_word(gates, op, &words[a.0 as usize], &words[b.0 as usize], &words[c.0 as usize])
+        }
+    }
+}
