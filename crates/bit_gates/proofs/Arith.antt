@@ -5,7 +5,7 @@ use Rattle.std.specs.Bool.{xor}
 use mathlib.Core.Bool.{xor as the_xor}
 use Rattle.std.proofs.lemmas.Bool.Decides.{nat_tests}
 use Rattle.std.proofs.lemmas.Nat.{and_block, or_block, xor_block, mod-pow-add, pow-add, mul-mod_first, shr-shr, shr_le, div-mul-add, mod-mul-add, shr_split, mod_below, pow_pos, mul-lt}
-use Rattle.std.proofs.lemmas.Bool.{cases_eq}
+use Rattle.std.proofs.lemmas.Bool.{cases_eq, cases_lt}
 use Rattle.std.specs.Int.{bit_at}
 use Rattle.std.proofs.lemmas.Nat.Bits.{shr_and_one, same_from_bits, bit_at_xor, bit_at-zero, bit_at-lt}
 use Rattle.dg_base.specs.Values.{truth_of}
@@ -160,7 +160,7 @@ moved_within n p q e =
     mul_low : (a b c : ℕ) → a < b → 0 < c → a * c < b * c
     mul_low a b c h k = grind arith
     by_parts : (n h l P Q : ℕ) → h * Q + l ≡ n → P * Q ≡ 2 ^ 32 → n * P ≡ h * 2 ^ 32 + l * P
-    by_parts n h l P Q split all = rw (← split, ← all) (omega arith)
+    by_parts n h l P Q split all = omega (arith, ap (λ z. z * P) split, ap (λ z. h * z) all)
 
 -- restoring: the rest is the difference where the divisor is not greater
 pub restore : (r next b L R : ℕ) (top carry : Bool) → L + 2 ^ 32 * truth_of top ≡ 2 * r + next → R + 2 ^ 32 * truth_of carry + b ≡ L + 2 ^ 32
@@ -176,17 +176,33 @@ pub quotient_step : (A Q b r x t behind : ℕ) → A ≡ Q * b + r → 2 * r + x
 quotient_step A Q b r x t behind h k = omega arith
 
 -- the quotient and the remainder, 0 where the divisor is
-pub quotient_is : (a b q : ℕ) (r : ℕ) → (0 < b → (a ≡ q * b + r) × (r < b)) → (if nat_lt 0 b then q else 0) ≡ cond (nat_eq b 0) 0 (a / b)
-quotient_is a zero q r h = refl
-quotient_is a (suc b) q r h =
-    let at = h (omega arith) in
-    sym (ap (λ z. z / suc b) at.0 ∙ div-mul-add q (suc b) r at.1)
+positive_test : (b : ℕ) → 0 < b → nat_lt 0 b ≡ true
+positive_test b h = grind (arith, nat_tests)
 
-pub remainder_is : (a b q : ℕ) (r : ℕ) → (0 < b → (a ≡ q * b + r) × (r < b)) → (if nat_lt 0 b then r else 0) ≡ cond (nat_eq b 0) 0 (a % b)
-remainder_is a zero q r h = refl
-remainder_is a (suc b) q r h =
-    let at = h (omega arith) in
-    sym (ap (λ z. z % suc b) at.0 ∙ mod-mul-add q (suc b) r at.1)
+nonzero_test : (b : ℕ) → 0 < b → nat_eq b 0 ≡ false
+nonzero_test b h = grind (arith, nat_tests)
+
+pub quotient_is : (a b q r : ℕ) → (0 < b → (a ≡ q * b + r) × (r < b)) → (if nat_lt 0 b then q else 0) ≡ cond (nat_eq b 0) 0 (a / b)
+quotient_is a b q r h =
+    elim (cases_lt 0 b) [
+      | inl some ↦
+          let at = h some in
+          let x = positive_test b some in
+          let y = nonzero_test b some in
+          rw (x, y) (sym (ap (λ z. z / b) at.0 ∙ div-mul-add q b r at.1))
+      | inr none ↦ let e : b ≡ 0 = omega arith in rw e refl
+    ]
+
+pub remainder_is : (a b q r : ℕ) → (0 < b → (a ≡ q * b + r) × (r < b)) → (if nat_lt 0 b then r else 0) ≡ cond (nat_eq b 0) 0 (a % b)
+remainder_is a b q r h =
+    elim (cases_lt 0 b) [
+      | inl some ↦
+          let at = h some in
+          let x = positive_test b some in
+          let y = nonzero_test b some in
+          rw (x, y) (sym (ap (λ z. z % b) at.0 ∙ mod-mul-add q b r at.1))
+      | inr none ↦ let e : b ≡ 0 = omega arith in rw e refl
+    ]
 
 -- two numbers are equal where no bit is apart
 xor_none_same : (a b : ℕ) → bit_xor a b ≡ 0 → a ≡ b

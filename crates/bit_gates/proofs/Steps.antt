@@ -1,8 +1,8 @@
 -- Gates one behind another, and words of them bit by bit.
 use Rattle.std.proofs.Common.{◌≡◌, ℕ, ◌+◌, ◌-◌, ◌*◌, ◌/◌, ◌%◌, ◌^◌, ◌<◌, ◌≤◌, Bool, true, false, not, ◌&&◌, ◌||◌, List, [], ◌∷◌, ◌++◌, map, length, take, drop, set, get_or, refl, ap, sym, ◌∙◌, subst, arith}
 use Rattle.std.specs.Prelude.{All, Contains, replicate, nat_eq, bit_and}
-use Rattle.std.proofs.lemmas.List.{take_all, length-set, length-replicate}
-use Rattle.std.proofs.lemmas.List.Elements.{All-set, All-weaker, All-get_or, All-replicate, Contains-append_left}
+use Rattle.std.proofs.lemmas.List.{take_all, length-set, length-replicate, length-map}
+use Rattle.std.proofs.lemmas.List.Elements.{All-map, All-set, All-weaker, All-get_or, All-replicate, Contains-append_left}
 use Rattle.dg_base.specs.declared.Lit.{Lit}
 use Rattle.dg_base.specs.Values.{truth_of}
 use Rattle.cnf_problem.specs.Literals.{value, negated, IsOver, AreSatisfied}
@@ -31,6 +31,12 @@ word_more f g w extends (long, over) = (long, all_more f g w extends over)
 -- a bit of a word
 pub bit_over : (n : ℕ) (w : List Lit) (i : ℕ) (d : Lit) → i < 32 → IsWordOver n w → IsOver n (get_or w i d)
 bit_over n w i d h (long, over) = All-get_or (IsOver n) w i d (omega arith) over
+
+-- an inverse is over the same variables
+pub inverse_over : (n : ℕ) (w inverse : List Lit) → IsWordOver n w → inverse ≡ map negated w → IsWordOver n inverse
+inverse_over n w inverse (long, over) e =
+    subst (λ z. IsWordOver n z) (sym e)
+    (length-map w negated ∙ long, All-map (IsOver n) negated w (All-weaker (IsOver n) (λ l. IsOver n (negated l)) (λ l h. over-negated n l h) w over))
 
 -- a gate that is told otherwise
 pub gate_as : (f g : Formula) (l : Lit) (b c : List Bool → Bool) → IsGate f g l b → ((s : List Bool) → AreSatisfied s g.clauses → b s ≡ c s) → IsGate f g l c

@@ -36,8 +36,8 @@ pub fn shift_right(gates: &mut Gates, a: &Word, amount: &Word, fill: Lit) -> Res
     let mut word = *a;
     let mut places = 1;
     for j in 0..5 {
-        let moved = moved_down(&word, places, fill);
-        word = choose_word(gates, amount[j], &moved, &word)?;
+        let lower = moved_down(&word, places, fill);
+        word = choose_word(gates, amount[j], &lower, &word)?;
         places *= 2;
     }
     Ok(word)

@@ -1,5 +1,5 @@
 // Words that take no gates.
-ghost use Rattle.std.specs.Prelude.{◌≡◌, ◌^◌, ◌<◌, ◌≤◌, ◌-◌, ◌++◌, map, take, drop, replicate, IfOk};
+ghost use Rattle.std.specs.Prelude.{◌≡◌, ◌^◌, ◌<◌, ◌≤◌, ◌-◌, ◌++◌, length, map, take, drop, replicate, IfOk};
 ghost use Rattle.dg_base.specs.Values.{truth_of};
 ghost use Rattle.cnf_problem.specs.Literals.{value, negated as negation, IsOver};
 ghost use Rattle.bit_gates.specs.Words.{number, IsWordOver, Spells, AddsWord};
@@ -44,6 +44,7 @@ pub fn flag(gates: &Gates, lit: Lit) -> Word
 
 /// The word with each bit inverted.
 pub fn inverted(word: &Word) -> Word
+    requires { length word.now ≡ 32 }
     ensures { result ≡ map negation word.now }
 {
     let mut inverse = *word;
@@ -55,20 +56,26 @@ pub fn inverted(word: &Word) -> Word
 
 // The word moved up by so many places, with the literal in those below.
 pub(crate) fn moved_up(word: &Word, places: usize, fill: Lit) -> Word
-    requires { places ≤ 32 }
+    requires few { places ≤ 32 }
+    requires long { length word.now ≡ 32 }
     ensures { result ≡ replicate places fill ++ take (32 - places) word.now }
 {
     let mut moved = [fill; 32];
-    moved[places..].copy_from_slice(&word[..32 - places]);
+    for i in 0..32 - places {
+        moved[places + i] = word[i];
+    }
     moved
 }
 
 // The word moved down by so many places, with the literal in those above.
 pub(crate) fn moved_down(word: &Word, places: usize, fill: Lit) -> Word
-    requires { places ≤ 32 }
+    requires few { places ≤ 32 }
+    requires long { length word.now ≡ 32 }
     ensures { result ≡ drop places word.now ++ replicate places fill }
 {
     let mut moved = [fill; 32];
-    moved[..32 - places].copy_from_slice(&word[places..]);
+    for i in 0..32 - places {
+        moved[i] = word[places + i];
+    }
     moved
 }

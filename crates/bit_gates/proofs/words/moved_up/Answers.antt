@@ -1,0 +1,17 @@
+use Rattle.std.proofs.Common.{arith}
+use Rattle.std.proofs.Common.{◌∙◌}
+use Rattle.std.proofs.lemmas.List.{length-set, length-replicate}
+use Rattle.bit_gates.proofs.Moved.{up_none, up_more, up_made}
+use Rattle.bit_gates.proofs.words.moved_up.Goals as goal
+
+pub loop-i-init : goal.loop-i-init
+loop-i-init c = record { long = length-replicate 32 c.args.fill; so_far = up_none c.args.places c.args.word.now c.args.fill c.requires.few }
+
+pub loop-i-preserved : goal.loop-i-preserved
+loop-i-preserved c = record {
+  long = length-set _ _ _ ∙ c.loop-i.invariant.long;
+  so_far = up_more _ _ _ _ _ _ (omega arith) c.loop-i.invariant.long c.requires.long c.loop-i.invariant.so_far;
+}
+
+pub returns : goal.returns
+returns c = up_made _ c.loop-i.i _ _ _ c.requires.few (omega arith) c.loop-i.invariant.long c.loop-i.invariant.so_far
