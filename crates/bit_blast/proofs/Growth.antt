@@ -4,7 +4,7 @@ use Rattle.std.specs.Prelude.{All, Contains, slice_get}
 use Rattle.std.proofs.lemmas.List.{append_assoc, append-nil, length_push, get_or_append_left, get_or_push}
 use Rattle.std.proofs.lemmas.List.Elements.{All-head, All-tail, All-weaker, All-push, All-get_or, Contains-append_left, Contains-append_right, Contains-append_cases}
 use Rattle.std.proofs.lemmas.Option.{slice_get_within, get_or_from_slice_get}
-use Rattle.dg_base.proofs.Lists.{get_there, get_append_front, get_push_cases, get_push_last}
+use Rattle.dg_base.proofs.Lists.{get_nothing, get_there, get_append_front, get_push_cases, get_push_last}
 use Rattle.dg_base.specs.declared.Lit.{Lit}
 use Rattle.dg_base.specs.Values.{operator, truth_of}
 use Rattle.bv_term.specs.declared.term.TermId.{TermId}
@@ -178,7 +178,7 @@ none_made f = record {
   grows = omega arith;
   added = [];
   clauses = sym (append-nil f.clauses);
-  exact = λ s sat n t e. cc;
+  exact = λ s sat n t e. absurd (get_nothing n t e);
   free = λ s inputs long fit. record {
     more = [];
     extends = record {
@@ -186,12 +186,24 @@ none_made f = record {
       satisfied = λ clause listed. absurd (nothing clause listed);
       kept = λ clause listed h. subst (λ z. IsSatisfied z clause) (sym (append-nil s)) h;
     };
-    spelled = λ n e. cc;
+    spelled = λ n e. absurd (get_nothing n Input e);
   };
 }
   where
     nothing : (clause : List Lit) → Contains [] clause → ⊥
     nothing clause (k, h, e) = omega arith
+
+-- the value of a term by those of its arguments
+value_of_term : (s : List Bool) (terms : List Term) (words : List (List Lit)) → AreTerms terms → (n bound : ℕ)
+    → ((m : ℕ) → m < bound → m < length terms → number s (word_at words m) ≡ term_value (inputs_under s words) terms (record { 0 = m }))
+    → n ≤ bound → n < length terms → (t : Term) → slice_get terms n ≡ Some t → IsBehind n t → number_by s words n t ≡ term_value (inputs_under s words) terms (record { 0 = n })
+value_of_term s terms words are n bound earlier low within Input e behind = sym (value_by_term terms (inputs_under s words) (record { 0 = n }) Input are e)
+value_of_term s terms words are n bound earlier low within (Constant v) e behind = sym (value_by_term terms (inputs_under s words) (record { 0 = n }) (Constant v) are e)
+value_of_term s terms words are n bound earlier low within (Apply op a b c) e behind =
+    let x = earlier a.0 (omega arith) (omega arith) in
+    let y = earlier b.0 (omega arith) (omega arith) in
+    let z = earlier c.0 (omega arith) (omega arith) in
+    rw (x, y, z) (sym (value_by_term terms (inputs_under s words) (record { 0 = n }) (Apply op a b c) are e))
 
 -- the numbers that the words spell are the terms' values
 values_below : (s : List Bool) (terms : List Term) (words : List (List Lit)) → AreTerms terms
@@ -200,18 +212,8 @@ values_below : (s : List Bool) (terms : List Term) (words : List (List Lit)) →
 values_below s terms words are exact zero n h within = absurd (omega arith)
 values_below s terms words are exact (suc bound) n h within =
     let there = get_there terms n within in
-    let id : TermId = record { 0 = n } in
     let behind : IsBehind n there.0 = subst (λ x. IsBehind n x) (get_or_from_slice_get terms n there.0 Input there.1) (are n within) in
-    exact n there.0 there.1 ∙ by_term there.0 there.1 behind
-  where
-    by_term : (t : Term) → slice_get terms n ≡ Some t → IsBehind n t → number_by s words n t ≡ term_value (inputs_under s words) terms (record { 0 = n })
-    by_term Input e behind = sym (value_by_term terms (inputs_under s words) (record { 0 = n }) Input are e)
-    by_term (Constant v) e behind = sym (value_by_term terms (inputs_under s words) (record { 0 = n }) (Constant v) are e)
-    by_term (Apply op a b c) e behind =
-        let x = values_below s terms words are exact bound a.0 (omega arith) (omega arith) in
-        let y = values_below s terms words are exact bound b.0 (omega arith) (omega arith) in
-        let z = values_below s terms words are exact bound c.0 (omega arith) (omega arith) in
-        rw (x, y, z) (sym (value_by_term terms (inputs_under s words) (record { 0 = n }) (Apply op a b c) are e))
+    exact n there.0 there.1 ∙ value_of_term s terms words are n bound (values_below s terms words are exact bound) (omega arith) (omega arith) there.0 there.1 behind
 
 -- all terms
 pub blasted : (f g : Formula) (terms : List Term) (words : List (List Lit)) → AreTerms terms → Made f g terms words → Blasts f g terms words

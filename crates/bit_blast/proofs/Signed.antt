@@ -135,11 +135,10 @@ sign_of s w d long =
 
 -- a word with its sign bit flipped
 pub flipped_over : (n : ℕ) (w : List Lit) (l d : Lit) → l ≡ negated (get_or w 31 d) → IsWordOver n w → IsWordOver n (set w 31 l)
-flipped_over n w l d e (long, over) =
-    (
-      length-set w 31 l ∙ long,
-      All-set (IsOver n) w 31 l (subst (λ z. IsOver n z) (sym e) (over-negated n (get_or w 31 d) (All-get_or (IsOver n) w 31 d (omega arith) over))) over,
-    )
+flipped_over n w l d e (long, over) = (
+  length-set w 31 l ∙ long,
+  All-set (IsOver n) w 31 l (subst (λ z. IsOver n z) (sym e) (over-negated n (get_or w 31 d) (All-get_or (IsOver n) w 31 d (omega arith) over))) over,
+)
 
 pub flipped_number : (s : List Bool) (w : List Lit) (l d : Lit) → length w ≡ 32 → l ≡ negated (get_or w 31 d) → number s (set w 31 l) ≡ (number s w + 2 ^ 31) % 2 ^ 32
 flipped_number s w l d long e =
@@ -161,7 +160,7 @@ pub less_of_flipped : (f g : Formula) (a b x y : List Lit) (l d e : Lit) → len
 less_of_flipped f g a b x y l d e long_a long_b p q gate =
     gate_as f g l (λ s. nat_lt (number s x) (number s y)) (λ s. int_lt (int_of (number s a)) (int_of (number s b))) gate
     (λ s sat. ap (λ z. nat_lt z (number s y)) (p s) ∙ ap (λ z. nat_lt ((number s a + 2 ^ 31) % 2 ^ 32) z) (q s)
-        ∙ flipped_less (number s a) (number s b) (value s (get_or a 31 d)) (value s (get_or b 31 e)) (word_fits s a long_a) (word_fits s b long_b) (sign_of s a d long_a) (sign_of s b e long_b))
+    ∙ flipped_less (number s a) (number s b) (value s (get_or a 31 d)) (value s (get_or b 31 e)) (word_fits s a long_a) (word_fits s b long_b) (sign_of s a d long_a) (sign_of s b e long_b))
 
 -- a quotient of magnitudes with the sign of both
 pub divided_int : (f g h k m n : Formula) (a b x y q r w : List Lit) (sign d e : Lit) → length a ≡ 32 → length b ≡ 32
@@ -179,8 +178,8 @@ divided_int f g h k m n a b x y q r w sign d e long_a long_b first second parts 
       let at_g = older g h s second.extends at_h in
       last.exact s sat ∙ ap (λ z. negated_if z (number s q)) (gate.exact s at_m)
       ∙ ap (negated_if (xor (value s (get_or a 31 d)) (value s (get_or b 31 e))))
-          (parts.quotient_exact s at_k ∙ ap (λ z. quotient_or_zero z (number s y)) (first.exact s at_g)
-              ∙ ap (λ z. quotient_or_zero (negated_if (value s (get_or a 31 d)) (number s a)) z) (second.exact s at_h))
+      (parts.quotient_exact s at_k ∙ ap (λ z. quotient_or_zero z (number s y)) (first.exact s at_g)
+      ∙ ap (λ z. quotient_or_zero (negated_if (value s (get_or a 31 d)) (number s a)) z) (second.exact s at_h))
       ∙ signed_quotient (number s a) (number s b) (value s (get_or a 31 d)) (value s (get_or b 31 e)) (word_fits s a long_a) (word_fits s b long_b) (sign_of s a d long_a) (sign_of s b e long_b);
   extends = extends_steps f g n first.extends (extends_steps g h n second.extends (extends_steps h k n parts.extends (extends_steps k m n gate.extends last.extends)));
 }
@@ -200,8 +199,8 @@ remainder_of f g h k m a b x y q r w d e long_a long_b first second parts last =
       let at_g = older g h s second.extends at_h in
       last.exact s sat
       ∙ ap (negated_if (value s (get_or a 31 d)))
-          (parts.remainder_exact s at_k ∙ ap (λ z. remainder_or_zero z (number s y)) (first.exact s at_g)
-              ∙ ap (λ z. remainder_or_zero (negated_if (value s (get_or a 31 d)) (number s a)) z) (second.exact s at_h))
+      (parts.remainder_exact s at_k ∙ ap (λ z. remainder_or_zero z (number s y)) (first.exact s at_g)
+      ∙ ap (λ z. remainder_or_zero (negated_if (value s (get_or a 31 d)) (number s a)) z) (second.exact s at_h))
       ∙ signed_remainder (number s a) (number s b) (value s (get_or a 31 d)) (value s (get_or b 31 e)) (word_fits s a long_a) (word_fits s b long_b) (sign_of s a d long_a) (sign_of s b e long_b);
   extends = extends_steps f g m first.extends (extends_steps g h m second.extends (extends_steps h k m parts.extends last.extends));
 }

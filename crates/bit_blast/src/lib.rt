@@ -35,4 +35,3 @@ pub fn blast(alloc: Global, terms: &Terms, gates: &mut Gates) -> Result<Bits, Ou
     }
     Ok(Bits { words })
 }
-

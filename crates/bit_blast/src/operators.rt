@@ -7,26 +7,40 @@ ghost use Rattle.bit_blast.specs.Blasting.{IsOperatorGate};
 
 use crate::signed::{divide_int, less_int, remainder_int_word};
 use bit_gates::{
-    BitKind, Word, add, any, bitwise, choose_word, constant_word, divide, equal, flag, inverted, less,
-    multiply, negate, shift_left, shift_right, subtract,
+    BitKind, Word, add, any, bitwise, choose_word, constant_word, divide, equal, flag, inverted,
+    less, multiply, negate, shift_left, shift_right, subtract,
 };
 use cnf_problem::{Gates, negated};
 use dg_base::{Op, OutOfMemory};
 
 // The operator's word of its arguments' words.
-pub(crate) fn operator_word(gates: &mut Gates, op: Op, a: &Word, b: &Word, c: &Word) -> Result<Word, OutOfMemory>
+pub(crate) fn operator_word(
+    gates: &mut Gates,
+    op: Op,
+    a: &Word,
+    b: &Word,
+    c: &Word,
+) -> Result<Word, OutOfMemory>
     requires first { IsWordOver gates.old.vars a.now }
     requires second { IsWordOver gates.old.vars b.now }
     requires third { IsWordOver gates.old.vars c.now }
     ensures { IfOk result (IsOperatorGate gates.old gates.new op a.now b.now c.now) }
 {
     match op {
-        Op::Plus | Op::Minus | Op::Times | Op::Negate | Op::UnaryPlus => arithmetic(gates, op, a, b),
-        Op::DivideInt | Op::DivideUint | Op::RemainderInt | Op::RemainderUint => division(gates, op, a, b),
+        Op::Plus | Op::Minus | Op::Times | Op::Negate | Op::UnaryPlus => arithmetic(
+            gates, op, a, b,
+        ),
+        Op::DivideInt | Op::DivideUint | Op::RemainderInt | Op::RemainderUint => division(
+            gates, op, a, b,
+        ),
         Op::ShiftLeft | Op::ShiftRightInt | Op::ShiftRightUint => shift(gates, op, a, b),
         Op::LessInt | Op::AtMostInt | Op::GreaterInt | Op::AtLeastInt => order_int(gates, op, a, b),
-        Op::LessUint | Op::AtMostUint | Op::GreaterUint | Op::AtLeastUint => order_uint(gates, op, a, b),
-        Op::Equal | Op::NotEqual | Op::BitAnd | Op::BitOr | Op::BitXor | Op::BitNot => bits(gates, op, a, b),
+        Op::LessUint | Op::AtMostUint | Op::GreaterUint | Op::AtLeastUint => order_uint(
+            gates, op, a, b,
+        ),
+        Op::Equal | Op::NotEqual | Op::BitAnd | Op::BitOr | Op::BitXor | Op::BitNot => bits(
+            gates, op, a, b,
+        ),
         Op::LogicNot | Op::LogicAnd | Op::LogicOr | Op::Choose => logic(gates, op, a, b, c),
     }
 }

@@ -20,7 +20,13 @@ pub(crate) fn term_word(gates: &mut Gates, term: Term, words: &[Word]) -> Result
         Term::Input => input_word(gates),
         Term::Constant(value) => Ok(constant_word(gates, value)),
         Term::Apply(op, a, b, c) => {
-            operator_word(gates, op, &words[a.0 as usize], &words[b.0 as usize], &words[c.0 as usize])
+            operator_word(
+                gates,
+                op,
+                &words[a.0 as usize],
+                &words[b.0 as usize],
+                &words[c.0 as usize],
+            )
         }
     }
 }

@@ -44,16 +44,16 @@ left_more f g h a amount word moved w no d j p within at long never e far step =
     word_as f h w (λ s. if value s (get_or amount j d) then number s moved else number s word) (λ s. (number s a * 2 ^ number s (take (j + 1) amount)) % 2 ^ 32)
     (word_behind f g h w (λ s. if value s (get_or amount j d) then number s moved else number s word) far.extends step)
     (λ s sat.
-        let at_g = older g h s step.extends sat in
-        let is_no = never s (older f g s far.extends at_g) in
-        let few = few_places j within in
-        let up = number_up s p word moved no (omega arith) far.over.0 is_no e in
-        let before = far.exact s at_g in
-        ap (λ z. if value s (get_or amount j d) then z else number s word) up
-        ∙ ap (λ z. if value s (get_or amount j d) then (z * 2 ^ p) % 2 ^ 32 else z) before
-        ∙ up_step (number s a) (number s (take j amount)) p (value s (get_or amount j d))
-        ∙ ap (λ z. (number s a * 2 ^ (number s (take j amount) + z * truth_of (value s (get_or amount j d)))) % 2 ^ 32) at
-        ∙ ap (λ z. (number s a * 2 ^ z) % 2 ^ 32) (sym (number_more s amount j d (omega arith))))
+    let at_g = older g h s step.extends sat in
+    let is_no = never s (older f g s far.extends at_g) in
+    let few = few_places j within in
+    let up = number_up s p word moved no (omega arith) far.over.0 is_no e in
+    let before = far.exact s at_g in
+    ap (λ z. if value s (get_or amount j d) then z else number s word) up
+    ∙ ap (λ z. if value s (get_or amount j d) then (z * 2 ^ p) % 2 ^ 32 else z) before
+    ∙ up_step (number s a) (number s (take j amount)) p (value s (get_or amount j d))
+    ∙ ap (λ z. (number s a * 2 ^ (number s (take j amount) + z * truth_of (value s (get_or amount j d)))) % 2 ^ 32) at
+    ∙ ap (λ z. (number s a * 2 ^ z) % 2 ^ 32) (sym (number_more s amount j d (omega arith))))
 
 pub right_more : (f g h : Formula) (a amount word moved w : List Lit) (fill d : Lit) (j p : ℕ) → j < 5 → p ≡ 2 ^ j → length a ≡ 32 → length amount ≡ 32
     → moved ≡ drop p word ++ replicate p fill
@@ -64,15 +64,15 @@ right_more f g h a amount word moved w fill d j p within at long_a long e far st
     word_as f h w (λ s. if value s (get_or amount j d) then number s moved else number s word) (λ s. filled_shift (value s fill) (number s a) (number s (take (j + 1) amount)))
     (word_behind f g h w (λ s. if value s (get_or amount j d) then number s moved else number s word) far.extends step)
     (λ s sat.
-        let at_g = older g h s step.extends sat in
-        let few = few_places j within in
-        let down = number_down s p word moved fill (omega arith) far.over.0 e in
-        let before = far.exact s at_g in
-        ap (λ z. if value s (get_or amount j d) then z else number s word) down
-        ∙ ap (λ z. if value s (get_or amount j d) then filled_shift (value s fill) z p else z) before
-        ∙ down_step (value s fill) (number s a) (number s (take j amount)) p (value s (get_or amount j d)) (word_fits s a long_a)
-        ∙ ap (λ z. filled_shift (value s fill) (number s a) (number s (take j amount) + z * truth_of (value s (get_or amount j d)))) at
-        ∙ ap (λ z. filled_shift (value s fill) (number s a) z) (sym (number_more s amount j d (omega arith))))
+    let at_g = older g h s step.extends sat in
+    let few = few_places j within in
+    let down = number_down s p word moved fill (omega arith) far.over.0 e in
+    let before = far.exact s at_g in
+    ap (λ z. if value s (get_or amount j d) then z else number s word) down
+    ∙ ap (λ z. if value s (get_or amount j d) then filled_shift (value s fill) z p else z) before
+    ∙ down_step (value s fill) (number s a) (number s (take j amount)) p (value s (get_or amount j d)) (word_fits s a long_a)
+    ∙ ap (λ z. filled_shift (value s fill) (number s a) (number s (take j amount) + z * truth_of (value s (get_or amount j d)))) at
+    ∙ ap (λ z. filled_shift (value s fill) (number s a) z) (sym (number_more s amount j d (omega arith))))
 
 -- the low five bits
 amount_of : (s : List Bool) (amount : List Lit) (j : ℕ) → j ≡ 5 → length amount ≡ 32 → number s (take j amount) ≡ number s amount % 32

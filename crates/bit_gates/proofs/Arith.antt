@@ -159,6 +159,7 @@ moved_within n p q e =
   where
     mul_low : (a b c : ℕ) → a < b → 0 < c → a * c < b * c
     mul_low a b c h k = grind arith
+
     by_parts : (n h l P Q : ℕ) → h * Q + l ≡ n → P * Q ≡ 2 ^ 32 → n * P ≡ h * 2 ^ 32 + l * P
     by_parts n h l P Q split all = omega (arith, ap (λ z. z * P) split, ap (λ z. h * z) all)
 

@@ -63,8 +63,8 @@ choose_and f g always c a b n m r k p q e h =
     ok_as r (λ l. IsGate f g l (λ s. value s n && value s b)) (λ l. IsGate f g l (λ s. if value s c then value s a else value s b)) h
     (λ l gate. gate_as f g l (λ s. value s n && value s b) (λ s. if value s c then value s a else value s b) gate
     (λ s sat. ap (λ z. z && value s b) (ap (value s) p ∙ value-negated s c)
-        ∙ false_and (value s c) (value s a) (value s b)
-            (either_value s a always m false (not (value s c)) e (k s (older f g s gate.extends sat)) (ap (value s) q ∙ value-negated s c))))
+    ∙ false_and (value s c) (value s a) (value s b)
+    (either_value s a always m false (not (value s c)) e (k s (older f g s gate.extends sat)) (ap (value s) q ∙ value-negated s c))))
 
 -- the other branch is false
 pub choose_both : (f g : Formula) (always c a b : Lit) (r : Result Lit OutOfMemory) → HasValue f.clauses always (λ _. false) → (b ≡ always) ⊎ (b ≡ c)
@@ -81,8 +81,8 @@ choose_implied f g always c a b n m r k p q e h =
     ok_as r (λ l. IsGate f g l (λ s. value s n || value s a)) (λ l. IsGate f g l (λ s. if value s c then value s a else value s b)) h
     (λ l gate. gate_as f g l (λ s. value s n || value s a) (λ s. if value s c then value s a else value s b) gate
     (λ s sat. ap (λ z. z || value s a) (ap (value s) p ∙ value-negated s c)
-        ∙ or_true (value s c) (value s a) (value s b)
-            (either_value s b always m true (not (value s c)) e (k s (older f g s gate.extends sat)) (ap (value s) q ∙ value-negated s c))))
+    ∙ or_true (value s c) (value s a) (value s b)
+    (either_value s b always m true (not (value s c)) e (k s (older f g s gate.extends sat)) (ap (value s) q ∙ value-negated s c))))
 
 -- a conjunction of negations, negated
 pub or_gate : (f g : Formula) (a b n m l o : Lit) → n ≡ negated a → m ≡ negated b → o ≡ negated l → IsGate f g l (λ s. value s n && value s m) → IsGate f g o (λ s. value s a || value s b)
@@ -110,9 +110,9 @@ choice_more f g h w a b c l d e i within long_a long_b far gate =
     one_more f g h w i l (λ s. if value s c then number s (take i a) else number s (take i b)) (λ s. if value s c then number s (take (i + 1) a) else number s (take (i + 1) b))
     (λ s. if value s c then value s (get_or a i d) else value s (get_or b i e)) within far gate
     (λ s sat.
-        let x = number_more s a i d (omega arith) in
-        let y = number_more s b i e (omega arith) in
-        rw (x, y) (by_choice (value s c) (number s (take i a)) (number s (take i b)) (2 ^ i) (value s (get_or a i d)) (value s (get_or b i e))))
+    let x = number_more s a i d (omega arith) in
+    let y = number_more s b i e (omega arith) in
+    rw (x, y) (by_choice (value s c) (number s (take i a)) (number s (take i b)) (2 ^ i) (value s (get_or a i d)) (value s (get_or b i e))))
   where
     by_choice : (c : Bool) (A B P : ℕ) (x y : Bool) → (if c then A else B) + P * truth_of (if c then x else y) ≡ (if c then A + P * truth_of x else B + P * truth_of y)
     by_choice true A B P x y = refl
@@ -134,9 +134,9 @@ pub any_more : (f g h : Formula) (a : List Lit) (any l d : Lit) (i : ℕ) → i 
 any_more f g h a any l d i within long far gate =
     gate_as f h l (λ s. value s any || value s (get_or a i d)) (λ s. nat_lt 0 (number s (take (i + 1) a))) (gate_behind f g h l (λ s. value s any || value s (get_or a i d)) far.extends gate)
     (λ s sat.
-        ap (λ z. z || value s (get_or a i d)) (far.exact s (older g h s gate.extends sat))
-        ∙ any_step (2 ^ i) (number s (take i a)) (value s (get_or a i d)) (pow_pos i)
-        ∙ ap (nat_lt 0) (sym (number_more s a i d (omega arith))))
+    ap (λ z. z || value s (get_or a i d)) (far.exact s (older g h s gate.extends sat))
+    ∙ any_step (2 ^ i) (number s (take i a)) (value s (get_or a i d)) (pow_pos i)
+    ∙ ap (nat_lt 0) (sym (number_more s a i d (omega arith))))
 
 -- a comparison by its bits
 pub less_more : (f g h : Formula) (a b : List Lit) (less l d e : Lit) (i : ℕ) → i < 32 → length a ≡ 32 → length b ≡ 32
@@ -147,12 +147,12 @@ less_more f g h a b less l d e i within long_a long_b far gate =
     gate_as f h l (λ s. if xor (value s (get_or a i d)) (value s (get_or b i e)) then value s (get_or b i e) else value s less) (λ s. nat_lt (number s (take (i + 1) a)) (number s (take (i + 1) b)))
     (gate_behind f g h l (λ s. if xor (value s (get_or a i d)) (value s (get_or b i e)) then value s (get_or b i e) else value s less) far.extends gate)
     (λ s sat.
-        let x = value s (get_or a i d) in
-        let y = value s (get_or b i e) in
-        ap (λ z. if xor (value s (get_or a i d)) (value s (get_or b i e)) then value s (get_or b i e) else z) (far.exact s (older g h s gate.extends sat))
-        ∙ less_step (2 ^ i) (number s (take i a)) (number s (take i b)) (value s (get_or a i d)) (value s (get_or b i e)) (number_low s i a (omega arith)) (number_low s i b (omega arith))
-        ∙ ap (λ z. nat_lt z (number s (take i b) + 2 ^ i * truth_of (value s (get_or b i e)))) (sym (number_more s a i d (omega arith)))
-        ∙ ap (λ z. nat_lt (number s (take (i + 1) a)) z) (sym (number_more s b i e (omega arith))))
+    let x = value s (get_or a i d) in
+    let y = value s (get_or b i e) in
+    ap (λ z. if xor (value s (get_or a i d)) (value s (get_or b i e)) then value s (get_or b i e) else z) (far.exact s (older g h s gate.extends sat))
+    ∙ less_step (2 ^ i) (number s (take i a)) (number s (take i b)) (value s (get_or a i d)) (value s (get_or b i e)) (number_low s i a (omega arith)) (number_low s i b (omega arith))
+    ∙ ap (λ z. nat_lt z (number s (take i b) + 2 ^ i * truth_of (value s (get_or b i e)))) (sym (number_more s a i d (omega arith)))
+    ∙ ap (λ z. nat_lt (number s (take (i + 1) a)) z) (sym (number_more s b i e (omega arith))))
 
 -- one bit of a comparison
 pub less_bit : (f g h : Formula) (apart a b lower l : Lit) → IsGate f g apart (λ s. xor (value s a) (value s b)) → IsGate g h l (λ s. if value s apart then value s b else value s lower)
@@ -171,9 +171,9 @@ bitwise_more f g h w a b kind l d e i within long_a long_b far gate =
     one_more f g h w i l (λ s. word_of kind (number s (take i a)) (number s (take i b))) (λ s. word_of kind (number s (take (i + 1) a)) (number s (take (i + 1) b)))
     (λ s. bit_of kind (value s (get_or a i d)) (value s (get_or b i e))) within far gate
     (λ s sat.
-        bitwise_step kind i (number s (take i a)) (number s (take i b)) (value s (get_or a i d)) (value s (get_or b i e)) (number_low s i a (omega arith)) (number_low s i b (omega arith))
-        ∙ ap (λ z. word_of kind z (number s (take i b) + 2 ^ i * truth_of (value s (get_or b i e)))) (sym (number_more s a i d (omega arith)))
-        ∙ ap (λ z. word_of kind (number s (take (i + 1) a)) z) (sym (number_more s b i e (omega arith))))
+    bitwise_step kind i (number s (take i a)) (number s (take i b)) (value s (get_or a i d)) (value s (get_or b i e)) (number_low s i a (omega arith)) (number_low s i b (omega arith))
+    ∙ ap (λ z. word_of kind z (number s (take i b) + 2 ^ i * truth_of (value s (get_or b i e)))) (sym (number_more s a i d (omega arith)))
+    ∙ ap (λ z. word_of kind (number s (take (i + 1) a)) z) (sym (number_more s b i e (omega arith))))
 
 pub bitwise_made : (f g : Formula) (w a b : List Lit) (kind : BitKind) (i : ℕ) → i ≡ 32 → length a ≡ 32 → length b ≡ 32
     → SoFar f g w i (λ s. word_of kind (number s (take i a)) (number s (take i b)))

@@ -96,8 +96,8 @@ spelled t (suc k) base n (l ∷ ls) e h lits values =
     let double : 2 ^ suc k ≡ 2 * 2 ^ k = omega arith in
     let below : n < 2 * 2 ^ k = rw (← double) h in
     let rest = spelled t k (base + 1) (n / 2) ls (omega arith) (omega arith)
-        (λ i d within. lits (suc i) d (omega arith) ∙ ap (λ m. positive m) (omega arith))
-        (λ i within. ap (λ m. get_or t m false) (omega arith) ∙ values (suc i) (omega arith)) in
+    (λ i d within. lits (suc i) d (omega arith) ∙ ap (λ m. positive m) (omega arith))
+    (λ i within. ap (λ m. get_or t m false) (omega arith) ∙ values (suc i) (omega arith)) in
     let lit : l ≡ positive (base + 0 + 1) = lits 0 l (omega arith) in
     let bit : value t l ≡ nat_eq (n % 2) 1 =
     ap (value t) lit ∙ value-positive t (base + 0 + 1) ∙ ap (λ m. get_or t m false) (omega arith) ∙ values 0 (omega arith) in
@@ -116,12 +116,11 @@ word_added f g w i e far = record {
   clauses = far.clauses;
   choice = λ s n long below.
       let bits = bits_of 32 n in
-      let size : length (bits_of 32 n) ≡ i = length-bits_of 32 n ∙ sym e in
-      (
+      let size : length (bits_of 32 n) ≡ i = length-bits_of 32 n ∙ sym e in (
         bits_of 32 n,
         far.choice s (bits_of 32 n) long size,
         spelled (s ++ bits_of 32 n) 32 f.vars n w far.long below
-        (λ k d within. far.lits k d (omega arith))
-        (λ k within. ap (λ m. get_or (s ++ bits_of 32 n) (m + k) false) (sym long) ∙ get_or-append-add s (bits_of 32 n) k false),
+            (λ k d within. far.lits k d (omega arith))
+            (λ k within. ap (λ m. get_or (s ++ bits_of 32 n) (m + k) false) (sym long) ∙ get_or-append-add s (bits_of 32 n) k false),
       );
 }

@@ -43,7 +43,7 @@ divided_step f g h k before longer inverse rest b behind next always carry bit d
       let fits_b = word_fits s b long_b in
       let small = truth_below (value s next) in
       let step = restore (number s before) (truth_of (value s next)) (number s b) (number s longer) (number s rest) (value s (get_or before 31 d)) (value s carry)
-          (omega arith) (omega arith) fits_rest fits_longer fits_b below small in
+      (omega arith) (omega arith) fits_rest fits_longer fits_b below small in
       let is_bit : value s bit ≡ (value s (get_or before 31 d) || value s carry) = top.exact s at_h in
       let is_behind : number s behind ≡ (if value s (get_or before 31 d) || value s carry then number s rest else number s longer) = choice.exact s sat ∙ ap (λ z. if z then number s rest else number s longer) is_bit in
       rw (is_bit, is_behind) step;
@@ -87,10 +87,9 @@ divided_more f g h a b quotient remainder behind bit d i place within at long_a 
       let here = step.exact s sat before.1 in
       let from : 32 - (i + 1) ≡ place = omega arith in
       let next : 32 - i ≡ place + 1 = omega arith in
-      let A : number s (drop (place + 1) a) ≡ number s (drop (place + 1) quotient) * number s b + number s remainder = rw (← next) before.0 in
-      (
+      let A : number s (drop (place + 1) a) ≡ number s (drop (place + 1) quotient) * number s b + number s remainder = rw (← next) before.0 in (
         rw (from, number_from s a place d (omega arith), number_from_written s quotient place bit (omega arith))
-        (quotient_step (number s (drop (place + 1) a)) (number s (drop (place + 1) quotient)) (number s b) (number s remainder) (truth_of (value s (get_or a place d))) (truth_of (value s bit)) (number s behind) A here.0),
+            (quotient_step (number s (drop (place + 1) a)) (number s (drop (place + 1) quotient)) (number s b) (number s remainder) (truth_of (value s (get_or a place d))) (truth_of (value s bit)) (number s behind) A here.0),
         here.1,
       );
   extends = extends_steps f g h far.extends step.extends;

@@ -23,10 +23,9 @@ pub down_more : (p i : ℕ) (w moved : List Lit) (fill d : Lit) → p + i < 32 �
     → (take (i + 1) (set moved i (get_or w (p + i) d)) ≡ take (i + 1) (drop p w)) × (drop (i + 1) (set moved i (get_or w (p + i) d)) ≡ replicate (32 - (i + 1)) fill)
 down_more p i w moved fill d h long long_w front back =
     let size = length-drop p w in
-    let here : get_or w (p + i) d ≡ get_or (drop p w) i d = sym (get_or-drop p w i d) in
-    (
+    let here : get_or w (p + i) d ≡ get_or (drop p w) i d = sym (get_or-drop p w i d) in (
       take_more_set moved i (get_or w (p + i) d) (omega arith) ∙ ap (λ z. z ++ get_or w (p + i) d ∷ []) front ∙ ap (λ z. take i (drop p w) ++ z ∷ []) here
-      ∙ sym (take_more (drop p w) i d (omega arith)),
+          ∙ sym (take_more (drop p w) i d (omega arith)),
       drop-set-lt (i + 1) moved i (get_or w (p + i) d) (omega arith) ∙ sym (drop-drop 1 i moved) ∙ ap (drop 1) back ∙ drop-replicate 1 (32 - i) fill ∙ ap (λ n. replicate n fill) (omega arith),
     )
 

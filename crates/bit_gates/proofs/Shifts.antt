@@ -59,6 +59,7 @@ number_down s p w moved fill few long e = by_fill (value s fill) refl
     split =
         ap (number s) e ∙ number-append s (drop p w) (replicate p fill)
         ∙ ap (λ z. number s (drop p w) + 2 ^ z * number s (replicate p fill)) (length-drop p w ∙ ap (λ n. n - p) long)
+
     by_fill : (b : Bool) → value s fill ≡ b → number s moved ≡ filled_shift b (number s w) p
     by_fill false no =
         let none = number-replicate_false s p fill no in
@@ -73,12 +74,15 @@ number_down s p w moved fill few long e = by_fill (value s fill) refl
         let turned : number s (map negated w) ≡ 2 ^ 32 - 1 - number s w = omega arith in
         split ∙ filled (number s (drop p w)) (2 ^ (32 - p)) (2 ^ p) (number s (replicate p fill)) (number s (map negated (drop p w))) ones powers high
         ∙ ap (λ z. 2 ^ 32 - 1 - z) (moved_inverse ∙ ap (λ z. z / 2 ^ p) turned)
+
     times_zero : (n m : ℕ) → n + m * 0 ≡ n
     times_zero n m = omega arith
+
     filled : (h P Q r i : ℕ) → r + 1 ≡ Q → P * Q ≡ 2 ^ 32 → i + h + 1 ≡ P → h + P * r ≡ 2 ^ 32 - 1 - i
     filled h P Q r i ones powers high =
         let all : P * r + P ≡ 2 ^ 32 = times P r Q ones ∙ powers in
         omega arith
+
     times : (P r Q : ℕ) → r + 1 ≡ Q → P * r + P ≡ P * Q
     times P r Q e = rw (← e) (omega arith)
 
@@ -92,13 +96,13 @@ row_added f g h sum a row moved zero w bit no p few long e never none first seco
     word_as f h w (λ s. (number s sum + number s row + truth_of (value s no)) % 2 ^ 32) (λ s. (number s sum + truth_of (value s bit) * (number s a * 2 ^ p)) % 2 ^ 32)
     (word_behind f g h w (λ s. (number s sum + number s row + truth_of (value s no)) % 2 ^ 32) first.extends second)
     (λ s sat.
-        let at_g = older g h s second.extends sat in
-        let at_f = older f g s first.extends at_g in
-        let is_no = never s at_f in
-        ap (λ z. (number s sum + z + truth_of (value s no)) % 2 ^ 32)
-            (first.exact s at_g ∙ ap (λ z. if value s bit then z else number s zero) (number_up s p a moved no (omega arith) long is_no e) ∙ ap (λ z. if value s bit then (number s a * 2 ^ p) % 2 ^ 32 else z) (none s at_f))
-        ∙ ap (λ z. (number s sum + (if value s bit then (number s a * 2 ^ p) % 2 ^ 32 else 0) + truth_of z) % 2 ^ 32) is_no
-        ∙ row_sum (number s sum) (number s a * 2 ^ p) (value s bit))
+    let at_g = older g h s second.extends sat in
+    let at_f = older f g s first.extends at_g in
+    let is_no = never s at_f in
+    ap (λ z. (number s sum + z + truth_of (value s no)) % 2 ^ 32)
+    (first.exact s at_g ∙ ap (λ z. if value s bit then z else number s zero) (number_up s p a moved no (omega arith) long is_no e) ∙ ap (λ z. if value s bit then (number s a * 2 ^ p) % 2 ^ 32 else z) (none s at_f))
+    ∙ ap (λ z. (number s sum + (if value s bit then (number s a * 2 ^ p) % 2 ^ 32 else 0) + truth_of z) % 2 ^ 32) is_no
+    ∙ row_sum (number s sum) (number s a * 2 ^ p) (value s bit))
 
 pub product_none : (f : Formula) (a b zero : List Lit) → IsWordOver f.vars zero → Spells f.clauses zero (λ _. 0) → IsWordGate f f zero (λ s. (number s a * number s (take 0 b)) % 2 ^ 32)
 product_none f a b zero over none = word_of_older f zero (λ s. (number s a * number s (take 0 b)) % 2 ^ 32) over (λ s sat. none s sat ∙ nothing (number s a))
@@ -114,9 +118,9 @@ product_more f g h a b sum w d i within long far row =
     word_as f h w (λ s. (number s sum + truth_of (value s (get_or b i d)) * (number s a * 2 ^ i)) % 2 ^ 32) (λ s. (number s a * number s (take (i + 1) b)) % 2 ^ 32)
     (word_behind f g h w (λ s. (number s sum + truth_of (value s (get_or b i d)) * (number s a * 2 ^ i)) % 2 ^ 32) far.extends row)
     (λ s sat.
-        ap (λ z. (z + truth_of (value s (get_or b i d)) * (number s a * 2 ^ i)) % 2 ^ 32) (far.exact s (older g h s row.extends sat))
-        ∙ row_step (number s a) (number s (take i b)) i (value s (get_or b i d))
-        ∙ ap (λ z. (number s a * z) % 2 ^ 32) (sym (number_more s b i d (omega arith))))
+    ap (λ z. (z + truth_of (value s (get_or b i d)) * (number s a * 2 ^ i)) % 2 ^ 32) (far.exact s (older g h s row.extends sat))
+    ∙ row_step (number s a) (number s (take i b)) i (value s (get_or b i d))
+    ∙ ap (λ z. (number s a * z) % 2 ^ 32) (sym (number_more s b i d (omega arith))))
 
 pub product_made : (f g : Formula) (a b w : List Lit) (i : ℕ) → i ≡ 32 → length b ≡ 32 → IsWordGate f g w (λ s. (number s a * number s (take i b)) % 2 ^ 32)
     → IsWordGate f g w (λ s. (number s a * number s b) % 2 ^ 32)

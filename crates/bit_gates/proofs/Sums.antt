@@ -51,7 +51,7 @@ sum_more f g h w a b next carry sum behind d e i within long_a long_b far place 
       let before = far.exact s (older g h s place.extends sat) in
       let here = place.exact s sat in
       let step = sum_step (2 ^ i) (number s (take i w)) (truth_of (value s next)) (number s (take i a)) (number s (take i b)) (truth_of (value s carry))
-          (truth_of (value s sum)) (truth_of (value s behind)) (truth_of (value s (get_or a i d))) (truth_of (value s (get_or b i e))) before here in
+      (truth_of (value s sum)) (truth_of (value s behind)) (truth_of (value s (get_or a i d))) (truth_of (value s (get_or b i e))) before here in
       rw (number_written s w i sum (omega arith), number_more s a i d (omega arith), number_more s b i e (omega arith), twice i) step;
   extends = extends_steps f g h far.extends place.extends;
 }
@@ -87,9 +87,9 @@ pub difference : (f g : Formula) (w a b n : List Lit) (carry : Lit) → length b
 difference f g w a b n carry long e k gate =
     word_as f g w (λ s. (number s a + number s n + truth_of (value s carry)) % 2 ^ 32) (λ s. (number s a + (2 ^ 32 - number s b)) % 2 ^ 32) gate
     (λ s sat.
-        let one : truth_of (value s carry) ≡ 1 = ap truth_of (k s (older f g s gate.extends sat)) in
-        let inverse : number s n + number s b + 1 ≡ 2 ^ 32 = ap (λ z. number s z + number s b + 1) e ∙ number-inverse s b ∙ ap (λ z. 2 ^ z) long in
-        ap (λ z. z % 2 ^ 32) (omega arith))
+    let one : truth_of (value s carry) ≡ 1 = ap truth_of (k s (older f g s gate.extends sat)) in
+    let inverse : number s n + number s b + 1 ≡ 2 ^ 32 = ap (λ z. number s z + number s b + 1) e ∙ number-inverse s b ∙ ap (λ z. 2 ^ z) long in
+    ap (λ z. z % 2 ^ 32) (omega arith))
 
 -- the difference from 0
 pub from_zero : (f g : Formula) (w z a : List Lit) → Spells f.clauses z (λ _. 0)

@@ -38,7 +38,13 @@ fn bit_sum(gates: &mut Gates, a: Lit, b: Lit, carry: Lit) -> Result<BitSum, OutO
 }
 
 // The sum of the low bits of two words and a carry; the other bits mean nothing.
-pub(crate) fn low_sum(gates: &mut Gates, a: &Word, b: &Word, carry: Lit, bits: usize) -> Result<Sum, OutOfMemory>
+pub(crate) fn low_sum(
+    gates: &mut Gates,
+    a: &Word,
+    b: &Word,
+    carry: Lit,
+    bits: usize,
+) -> Result<Sum, OutOfMemory>
     requires few { bits ≤ 32 }
     requires first { IsWordOver gates.old.vars a.now }
     requires second { IsWordOver gates.old.vars b.now }

@@ -5,14 +5,20 @@ ghost use Rattle.cnf_problem.specs.Literals.{value, IsOver};
 ghost use Rattle.bit_gates.specs.Words.{number, IsWordOver, IsWordGate};
 
 use crate::Word;
-use crate::choice::choose_word;
 use crate::adder::add;
+use crate::choice::choose_word;
 use crate::words::{constant_word, moved_up};
 use cnf_problem::Gates;
 use dg_base::{Lit, OutOfMemory};
 
 // The sum so far and, where the bit is true, the word moved up by so many places.
-fn add_row(gates: &mut Gates, sum: &Word, a: &Word, bit: Lit, places: usize) -> Result<Word, OutOfMemory>
+fn add_row(
+    gates: &mut Gates,
+    sum: &Word,
+    a: &Word,
+    bit: Lit,
+    places: usize,
+) -> Result<Word, OutOfMemory>
     requires few { places < 32 }
     requires first { IsWordOver gates.old.vars sum.now }
     requires second { IsWordOver gates.old.vars a.now }

@@ -4,8 +4,8 @@ ghost use Rattle.cnf_problem.specs.Literals.{value, IsOver};
 ghost use Rattle.bit_gates.specs.Words.{number, IsWordOver, IsDivision, IsLongDivision, IsDivisionStep};
 
 use crate::Word;
-use crate::choice::{any, choose_word, or};
 use crate::adder::low_sum;
+use crate::choice::{any, choose_word, or};
 use crate::words::{constant_word, inverted, moved_up};
 use cnf_problem::Gates;
 use dg_base::{Lit, OutOfMemory};
@@ -25,7 +25,12 @@ struct Step {
 }
 
 // Takes the divisor from the remainder and the next bit of the dividend, where it is not greater.
-fn division_step(gates: &mut Gates, remainder: &Word, next: Lit, b: &Word) -> Result<Step, OutOfMemory>
+fn division_step(
+    gates: &mut Gates,
+    remainder: &Word,
+    next: Lit,
+    b: &Word,
+) -> Result<Step, OutOfMemory>
     requires first { IsWordOver gates.old.vars remainder.now }
     requires second { IsOver gates.old.vars next }
     requires third { IsWordOver gates.old.vars b.now }
@@ -53,7 +58,10 @@ fn long_division(gates: &mut Gates, a: &Word, b: &Word) -> Result<Division, OutO
         quotient[place] = step.bit;
         remainder = step.remainder;
     }
-    Ok(Division { quotient, remainder })
+    Ok(Division {
+        quotient,
+        remainder,
+    })
 }
 
 /// The quotient and the remainder of two words; both are 0 where the divisor is.
@@ -67,5 +75,8 @@ pub fn divide(gates: &mut Gates, a: &Word, b: &Word) -> Result<Division, OutOfMe
     let parts = long_division(gates, a, b)?;
     let quotient = choose_word(gates, is_some, &parts.quotient, &zero)?;
     let remainder = choose_word(gates, is_some, &parts.remainder, &zero)?;
-    Ok(Division { quotient, remainder })
+    Ok(Division {
+        quotient,
+        remainder,
+    })
 }

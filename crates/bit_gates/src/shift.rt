@@ -27,7 +27,12 @@ pub fn shift_left(gates: &mut Gates, a: &Word, amount: &Word) -> Result<Word, Ou
 }
 
 /// The word moved down by the amount modulo 32, with the literal in the places above.
-pub fn shift_right(gates: &mut Gates, a: &Word, amount: &Word, fill: Lit) -> Result<Word, OutOfMemory>
+pub fn shift_right(
+    gates: &mut Gates,
+    a: &Word,
+    amount: &Word,
+    fill: Lit,
+) -> Result<Word, OutOfMemory>
     requires first { IsWordOver gates.old.vars a.now }
     requires second { IsWordOver gates.old.vars amount.now }
     requires third { IsOver gates.old.vars fill }

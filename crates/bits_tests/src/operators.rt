@@ -69,7 +69,12 @@ fn sums(rt: HostRuntime) -> Result<(), Fail> {
 
 #[test]
 fn divisions(rt: HostRuntime) -> Result<(), Fail> {
-    for op in [Op::DivideInt, Op::DivideUint, Op::RemainderInt, Op::RemainderUint] {
+    for op in [
+        Op::DivideInt,
+        Op::DivideUint,
+        Op::RemainderInt,
+        Op::RemainderUint,
+    ] {
         check_pairs(&rt, rt.alloc(), op)?;
     }
     Ok(())
@@ -85,7 +90,16 @@ fn shifts(rt: HostRuntime) -> Result<(), Fail> {
 
 #[test]
 fn orders(rt: HostRuntime) -> Result<(), Fail> {
-    for op in [Op::LessInt, Op::LessUint, Op::AtMostInt, Op::AtMostUint, Op::GreaterInt, Op::GreaterUint, Op::AtLeastInt, Op::AtLeastUint] {
+    for op in [
+        Op::LessInt,
+        Op::LessUint,
+        Op::AtMostInt,
+        Op::AtMostUint,
+        Op::GreaterInt,
+        Op::GreaterUint,
+        Op::AtLeastInt,
+        Op::AtLeastUint,
+    ] {
         check_pairs(&rt, rt.alloc(), op)?;
     }
     Ok(())
@@ -93,7 +107,15 @@ fn orders(rt: HostRuntime) -> Result<(), Fail> {
 
 #[test]
 fn bit_operators(rt: HostRuntime) -> Result<(), Fail> {
-    for op in [Op::Equal, Op::NotEqual, Op::BitAnd, Op::BitOr, Op::BitXor, Op::LogicAnd, Op::LogicOr] {
+    for op in [
+        Op::Equal,
+        Op::NotEqual,
+        Op::BitAnd,
+        Op::BitOr,
+        Op::BitXor,
+        Op::LogicAnd,
+        Op::LogicOr,
+    ] {
         check_pairs(&rt, rt.alloc(), op)?;
     }
     Ok(())
