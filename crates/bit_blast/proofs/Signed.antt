@@ -204,3 +204,12 @@ remainder_of f g h k m a b x y q r w d e long_a long_b first second parts last =
       ∙ signed_remainder (number s a) (number s b) (value s (get_or a 31 d)) (value s (get_or b 31 e)) (word_fits s a long_a) (word_fits s b long_b) (sign_of s a d long_a) (sign_of s b e long_b);
   extends = extends_steps f g m first.extends (extends_steps g h m second.extends (extends_steps h k m parts.extends last.extends));
 }
+
+-- a word or its negation, by a literal
+pub negated_word : (f g h : Formula) (a negative w : List Lit) (sign : Lit) → IsWordGate f g negative (λ s. (2 ^ 32 - number s a) % 2 ^ 32)
+    → IsWordGate g h w (λ s. if value s sign then number s negative else number s a) → IsWordGate f h w (λ s. if value s sign then (2 ^ 32 - number s a) % 2 ^ 32 else number s a)
+negated_word f g h a negative w sign first second = record {
+  over = second.over;
+  exact = λ s sat. second.exact s sat ∙ ap (λ z. if value s sign then z else number s a) (first.exact s (older g h s second.extends sat));
+  extends = extends_steps f g h first.extends second.extends;
+}
