@@ -1,5 +1,6 @@
 use Rattle.std.proofs.Common.{arith}
 use Rattle.bit_gates.proofs.Sums.{no_sum, sum_more}
+use Rattle.bit_gates.proofs.Steps.{bit_over, word_more}
 use Rattle.bit_gates.proofs.adder.low_sum.Goals as goal
 
 pub loop-i-init : goal.loop-i-init
@@ -10,3 +11,12 @@ loop-i-preserved c = sum_more _ _ _ _ _ _ _ _ _ _ _ _ _ (omega arith) c.requires
 
 pub returns : goal.returns
 returns c = c.loop-i.invariant
+
+pub bit_sum-place-requires-clause-first : goal.bit_sum-place-requires-clause-first
+bit_sum-place-requires-clause-first c = bit_over _ _ _ _ (omega arith) (word_more _ _ _ c.loop-i.invariant.extends c.requires.first)
+
+pub bit_sum-place-requires-clause-second : goal.bit_sum-place-requires-clause-second
+bit_sum-place-requires-clause-second c = bit_over _ _ _ _ (omega arith) (word_more _ _ _ c.loop-i.invariant.extends c.requires.second)
+
+pub bit_sum-place-requires-clause-third : goal.bit_sum-place-requires-clause-third
+bit_sum-place-requires-clause-third c = c.loop-i.invariant.carry_over

@@ -1,5 +1,6 @@
 use Rattle.std.proofs.Common.{arith}
 use Rattle.bit_gates.proofs.Choices.{bitwise_none, bitwise_more, bitwise_made}
+use Rattle.bit_gates.proofs.Steps.{bit_over, word_more}
 use Rattle.bit_gates.proofs.bits.bitwise.Goals as goal
 
 pub loop-i-init : goal.loop-i-init
@@ -10,3 +11,9 @@ loop-i-preserved c = bitwise_more _ _ _ _ _ _ _ _ _ _ _ c.loop-i-test.true c.req
 
 pub returns : goal.returns
 returns c = bitwise_made _ _ _ _ _ _ c.loop-i.i (omega arith) c.requires.first.0 c.requires.second.0 c.loop-i.invariant
+
+pub bit-word-requires-clause-first : goal.bit-word-requires-clause-first
+bit-word-requires-clause-first c = bit_over _ _ _ _ c.loop-i-test.true (word_more _ _ _ c.loop-i.invariant.extends c.requires.first)
+
+pub bit-word-requires-clause-second : goal.bit-word-requires-clause-second
+bit-word-requires-clause-second c = bit_over _ _ _ _ c.loop-i-test.true (word_more _ _ _ c.loop-i.invariant.extends c.requires.second)

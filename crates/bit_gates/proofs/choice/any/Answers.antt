@@ -1,5 +1,6 @@
 use Rattle.std.proofs.Common.{arith}
 use Rattle.bit_gates.proofs.Choices.{any_none, any_more, any_made}
+use Rattle.bit_gates.proofs.Steps.{bit_over, word_more}
 use Rattle.bit_gates.proofs.choice.any.Goals as goal
 
 pub loop-i-init : goal.loop-i-init
@@ -10,3 +11,9 @@ loop-i-preserved c = any_more _ _ _ _ _ _ _ _ c.loop-i-test.true c.requires.0 c.
 
 pub returns : goal.returns
 returns c = any_made _ _ _ _ c.loop-i.i (omega arith) c.requires.0 c.loop-i.invariant
+
+pub or-any-requires-clause-first : goal.or-any-requires-clause-first
+or-any-requires-clause-first c = c.loop-i.invariant.over
+
+pub or-any-requires-clause-second : goal.or-any-requires-clause-second
+or-any-requires-clause-second c = bit_over _ _ _ _ c.loop-i-test.true (word_more _ _ _ c.loop-i.invariant.extends c.requires)

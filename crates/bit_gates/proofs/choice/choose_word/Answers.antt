@@ -1,5 +1,6 @@
 use Rattle.std.proofs.Common.{arith}
 use Rattle.bit_gates.proofs.Choices.{choice_none, choice_more, choice_made}
+use Rattle.bit_gates.proofs.Steps.{bit_over, lit_more, word_more}
 use Rattle.bit_gates.proofs.choice.choose_word.Goals as goal
 
 pub loop-i-init : goal.loop-i-init
@@ -10,3 +11,12 @@ loop-i-preserved c = choice_more _ _ _ _ _ _ _ _ _ _ _ c.loop-i-test.true c.requ
 
 pub returns : goal.returns
 returns c = choice_made _ _ _ _ _ _ c.loop-i.i (omega arith) c.requires.first.0 c.requires.second.0 c.loop-i.invariant
+
+pub choose-word-requires-clause-choice : goal.choose-word-requires-clause-choice
+choose-word-requires-clause-choice c = lit_more _ _ _ c.loop-i.invariant.extends c.requires.choice
+
+pub choose-word-requires-clause-first : goal.choose-word-requires-clause-first
+choose-word-requires-clause-first c = bit_over _ _ _ _ c.loop-i-test.true (word_more _ _ _ c.loop-i.invariant.extends c.requires.first)
+
+pub choose-word-requires-clause-second : goal.choose-word-requires-clause-second
+choose-word-requires-clause-second c = bit_over _ _ _ _ c.loop-i-test.true (word_more _ _ _ c.loop-i.invariant.extends c.requires.second)

@@ -1,5 +1,6 @@
 use Rattle.std.proofs.Common.{arith}
 use Rattle.bit_gates.proofs.Choices.{less_none, less_more, less_made}
+use Rattle.bit_gates.proofs.Steps.{bit_over, word_more}
 use Rattle.bit_gates.proofs.compare.less.Goals as goal
 
 pub loop-i-init : goal.loop-i-init
@@ -10,3 +11,12 @@ loop-i-preserved c = less_more _ _ _ _ _ _ _ _ _ _ c.loop-i-test.true c.requires
 
 pub returns : goal.returns
 returns c = less_made _ _ _ _ _ c.loop-i.i (omega arith) c.requires.first.0 c.requires.second.0 c.loop-i.invariant
+
+pub less_by_bit-less-requires-clause-first : goal.less_by_bit-less-requires-clause-first
+less_by_bit-less-requires-clause-first c = bit_over _ _ _ _ c.loop-i-test.true (word_more _ _ _ c.loop-i.invariant.extends c.requires.first)
+
+pub less_by_bit-less-requires-clause-second : goal.less_by_bit-less-requires-clause-second
+less_by_bit-less-requires-clause-second c = bit_over _ _ _ _ c.loop-i-test.true (word_more _ _ _ c.loop-i.invariant.extends c.requires.second)
+
+pub less_by_bit-less-requires-clause-third : goal.less_by_bit-less-requires-clause-third
+less_by_bit-less-requires-clause-third c = c.loop-i.invariant.over
