@@ -7,13 +7,13 @@ pub loop-i-init : goal.loop-i-init
 loop-i-init c = any_none _ c.args.a.now _ c.constant-any.ensures.over c.constant-any.ensures.exact
 
 pub loop-i-preserved : goal.loop-i-preserved
-loop-i-preserved c = any_more _ _ _ _ _ _ _ _ c.loop-i-test.true c.requires.0 c.loop-i.invariant c.in_ok-any.ensures
+loop-i-preserved c = any_more _ _ _ c.args.a.now _ _ (record { 0 = 0 }) c.loop-i.i c.loop-i-test.true c.requires.0 c.loop-i.invariant c.in_ok-any.ensures
 
 pub returns : goal.returns
-returns c = any_made _ _ _ _ c.loop-i.i (omega arith) c.requires.0 c.loop-i.invariant
+returns c = any_made _ _ c.args.a.now _ c.loop-i.i (omega arith) c.requires.0 c.loop-i.invariant
 
 pub or-any-requires-clause-first : goal.or-any-requires-clause-first
 or-any-requires-clause-first c = c.loop-i.invariant.over
 
 pub or-any-requires-clause-second : goal.or-any-requires-clause-second
-or-any-requires-clause-second c = bit_over _ _ _ _ c.loop-i-test.true (word_more _ _ _ c.loop-i.invariant.extends c.requires)
+or-any-requires-clause-second c = bit_over _ c.args.a.now c.loop-i.i (record { 0 = 0 }) c.loop-i-test.true (word_more _ _ c.args.a.now c.loop-i.invariant.extends c.requires)

@@ -7,16 +7,16 @@ pub loop-i-init : goal.loop-i-init
 loop-i-init c = less_none _ c.args.a.now c.args.b.now _ c.constant-less.ensures.over c.constant-less.ensures.exact
 
 pub loop-i-preserved : goal.loop-i-preserved
-loop-i-preserved c = less_more _ _ _ _ _ _ _ _ _ _ c.loop-i-test.true c.requires.first.0 c.requires.second.0 c.loop-i.invariant c.in_ok-less.ensures
+loop-i-preserved c = less_more _ _ _ c.args.a.now c.args.b.now _ _ (record { 0 = 0 }) (record { 0 = 0 }) c.loop-i.i c.loop-i-test.true c.requires.first.0 c.requires.second.0 c.loop-i.invariant c.in_ok-less.ensures
 
 pub returns : goal.returns
-returns c = less_made _ _ _ _ _ c.loop-i.i (omega arith) c.requires.first.0 c.requires.second.0 c.loop-i.invariant
+returns c = less_made _ _ c.args.a.now c.args.b.now _ c.loop-i.i (omega arith) c.requires.first.0 c.requires.second.0 c.loop-i.invariant
 
 pub less_by_bit-less-requires-clause-first : goal.less_by_bit-less-requires-clause-first
-less_by_bit-less-requires-clause-first c = bit_over _ _ _ _ c.loop-i-test.true (word_more _ _ _ c.loop-i.invariant.extends c.requires.first)
+less_by_bit-less-requires-clause-first c = bit_over _ c.args.a.now c.loop-i.i (record { 0 = 0 }) c.loop-i-test.true (word_more _ _ c.args.a.now c.loop-i.invariant.extends c.requires.first)
 
 pub less_by_bit-less-requires-clause-second : goal.less_by_bit-less-requires-clause-second
-less_by_bit-less-requires-clause-second c = bit_over _ _ _ _ c.loop-i-test.true (word_more _ _ _ c.loop-i.invariant.extends c.requires.second)
+less_by_bit-less-requires-clause-second c = bit_over _ c.args.b.now c.loop-i.i (record { 0 = 0 }) c.loop-i-test.true (word_more _ _ c.args.b.now c.loop-i.invariant.extends c.requires.second)
 
 pub less_by_bit-less-requires-clause-third : goal.less_by_bit-less-requires-clause-third
 less_by_bit-less-requires-clause-third c = c.loop-i.invariant.over

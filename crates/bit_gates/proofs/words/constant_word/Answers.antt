@@ -7,10 +7,10 @@ pub loop-i-init : goal.loop-i-init
 loop-i-init c = constant_none _ c.args.constant _ c.constant.ensures.over
 
 pub loop-i-preserved : goal.loop-i-preserved
-loop-i-preserved c = constant_more _ _ _ _ _ _ c.loop-i-test.true refl c.constant-word.ensures.over c.constant-word.ensures.exact c.loop-i.invariant
+loop-i-preserved c = constant_more _ _ c.args.constant c.loop-i.i _ _ c.loop-i-test.true refl c.constant-word.ensures.over c.constant-word.ensures.exact c.loop-i.invariant
 
 pub returns-clause-over : goal.returns-clause-over
 returns-clause-over c = (c.loop-i.invariant.long, c.loop-i.invariant.over)
 
 pub returns-clause-exact : goal.returns-clause-exact
-returns-clause-exact c = constant_made _ _ _ c.loop-i.i (omega arith) (omega arith) c.loop-i.invariant
+returns-clause-exact c = constant_made _ _ c.args.constant c.loop-i.i (omega arith) (omega arith) c.loop-i.invariant

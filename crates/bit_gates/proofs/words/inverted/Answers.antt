@@ -9,9 +9,9 @@ loop-i-init c = record { long = c.requires; so_far = refl }
 
 pub loop-i-preserved : goal.loop-i-preserved
 loop-i-preserved c = record {
-  long = length-set _ _ _ ∙ c.loop-i.invariant.long;
-  so_far = inverse_more _ _ _ _ _ c.loop-i-test.true c.loop-i.invariant.long c.requires c.negated.ensures.value c.loop-i.invariant.so_far;
+  long = length-set c.loop-i.inverse _ _ ∙ c.loop-i.invariant.long;
+  so_far = inverse_more c.loop-i.i c.args.word.now c.loop-i.inverse _ (record { 0 = 0 }) c.loop-i-test.true c.loop-i.invariant.long c.requires c.negated.ensures.value c.loop-i.invariant.so_far;
 }
 
 pub returns : goal.returns
-returns c = inverse_made c.loop-i.i _ _ (omega arith) c.loop-i.invariant.long c.requires c.loop-i.invariant.so_far
+returns c = inverse_made c.loop-i.i c.args.word.now c.loop-i.inverse (omega arith) c.loop-i.invariant.long c.requires c.loop-i.invariant.so_far

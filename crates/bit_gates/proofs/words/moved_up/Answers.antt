@@ -9,9 +9,9 @@ loop-i-init c = record { long = length-replicate 32 c.args.fill; so_far = up_non
 
 pub loop-i-preserved : goal.loop-i-preserved
 loop-i-preserved c = record {
-  long = length-set _ _ _ ∙ c.loop-i.invariant.long;
-  so_far = up_more _ _ _ _ _ _ (omega arith) c.loop-i.invariant.long c.requires.long c.loop-i.invariant.so_far;
+  long = length-set c.loop-i.moved _ _ ∙ c.loop-i.invariant.long;
+  so_far = up_more c.args.places c.loop-i.i c.args.word.now c.loop-i.moved c.args.fill (record { 0 = 0 }) (omega arith) c.loop-i.invariant.long c.requires.long c.loop-i.invariant.so_far;
 }
 
 pub returns : goal.returns
-returns c = up_made _ c.loop-i.i _ _ _ c.requires.few (omega arith) c.loop-i.invariant.long c.loop-i.invariant.so_far
+returns c = up_made c.args.places c.loop-i.i c.args.word.now c.loop-i.moved c.args.fill c.requires.few (omega arith) c.loop-i.invariant.long c.loop-i.invariant.so_far
