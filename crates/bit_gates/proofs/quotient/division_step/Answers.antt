@@ -1,7 +1,44 @@
 use Rattle.std.proofs.Common.{arith}
+use Rattle.bit_gates.proofs.Steps.{bit_over, inverse_over, word_more}
 use Rattle.bit_gates.proofs.Shifts.{up_over}
 use Rattle.bit_gates.proofs.LongDivision.{divided_step}
 use Rattle.bit_gates.proofs.quotient.division_step.Goals as goal
 
+pub moved_up-longer-requires-clause-few : goal.moved_up-longer-requires-clause-few
+moved_up-longer-requires-clause-few c = omega arith
+
+pub moved_up-longer-requires-clause-long : goal.moved_up-longer-requires-clause-long
+moved_up-longer-requires-clause-long c = c.requires.first.0
+
+pub inverted-requires : goal.inverted-requires
+inverted-requires c = c.requires.third.0
+
+pub low_sum-rest-requires-clause-first : goal.low_sum-rest-requires-clause-first
+low_sum-rest-requires-clause-first c = up_over _ 1 c.args.remainder.now c.moved_up-longer.result c.args.next (omega arith) c.requires.first c.requires.second c.moved_up-longer.ensures
+
+pub low_sum-rest-requires-clause-second : goal.low_sum-rest-requires-clause-second
+low_sum-rest-requires-clause-second c = inverse_over _ c.args.b.now c.inverted.result c.requires.third c.inverted.ensures
+
+pub low_sum-rest-requires-clause-third : goal.low_sum-rest-requires-clause-third
+low_sum-rest-requires-clause-third c = c.constant-yes.ensures.over
+
+pub or-bit-requires-clause-first : goal.or-bit-requires-clause-first
+or-bit-requires-clause-first c = bit_over _ c.args.remainder.now 31 (record { 0 = 0 }) (omega arith) (word_more _ _ c.args.remainder.now c.in_ok-rest.ensures.extends c.requires.first)
+
+pub or-bit-requires-clause-second : goal.or-bit-requires-clause-second
+or-bit-requires-clause-second c = c.in_ok-rest.ensures.carry_over
+
+pub choose_word-remainder-requires-clause-choice : goal.choose_word-remainder-requires-clause-choice
+choose_word-remainder-requires-clause-choice c = c.in_ok-bit.ensures.over
+
+pub choose_word-remainder-requires-clause-first : goal.choose_word-remainder-requires-clause-first
+choose_word-remainder-requires-clause-first c = word_more _ _ c.in_ok-rest.rest.word c.in_ok-bit.ensures.extends c.in_ok-rest.ensures.over
+
+pub choose_word-remainder-requires-clause-second : goal.choose_word-remainder-requires-clause-second
+choose_word-remainder-requires-clause-second c = word_more _ _ c.moved_up-longer.result c.in_ok-bit.ensures.extends (word_more _ _ c.moved_up-longer.result c.in_ok-rest.ensures.extends
+    (up_over _ 1 c.args.remainder.now c.moved_up-longer.result c.args.next (omega arith) c.requires.first c.requires.second c.moved_up-longer.ensures))
+
 pub returns : goal.returns
-returns c = divided_step _ _ _ _ _ _ _ _ _ _ _ _ _ _ _ c.requires.first.0 c.requires.third.0 (up_over _ 1 _ _ _ (omega arith) c.requires.first c.requires.second c.moved_up-longer.ensures).0 c.moved_up-longer.ensures c.inverted.ensures c.constant-yes.ensures.exact c.in_ok-rest.ensures c.in_ok-bit.ensures c.in_ok-remainder.ensures
+returns c = divided_step _ _ _ _ c.args.remainder.now c.moved_up-longer.result c.inverted.result c.in_ok-rest.rest.word c.args.b.now _ c.args.next c.constant-yes.result c.in_ok-rest.rest.carry _ (record { 0 = 0 }) c.requires.first.0 c.requires.third.0
+    (up_over _ 1 c.args.remainder.now c.moved_up-longer.result c.args.next (omega arith) c.requires.first c.requires.second c.moved_up-longer.ensures).0 c.moved_up-longer.ensures c.inverted.ensures c.constant-yes.ensures.exact
+    c.in_ok-rest.ensures c.in_ok-bit.ensures c.in_ok-remainder.ensures
