@@ -1,10 +1,10 @@
 -- The words of terms, one behind another.
-use Rattle.std.proofs.Common.{◌≡◌, ℕ, zero, suc, ◌+◌, ◌*◌, ◌^◌, ◌<◌, ◌≤◌, ◌⊎◌, inl, inr, Bool, List, [], ◌∷◌, ◌++◌, length, get_or, refl, ap, sym, ◌∙◌, subst, arith, Some}
+use Rattle.std.proofs.Common.{◌≡◌, ℕ, zero, suc, ◌+◌, ◌*◌, ◌^◌, ◌<◌, ◌≤◌, ◌⊎◌, inl, inr, Bool, List, [], ◌∷◌, ◌++◌, length, take, drop, get_or, refl, ap, sym, ◌∙◌, subst, arith, Some}
 use Rattle.std.specs.Prelude.{All, Contains, slice_get}
-use Rattle.std.proofs.lemmas.List.{append_assoc, append-nil, length_push, get_or_append_left, get_or_push}
+use Rattle.std.proofs.lemmas.List.{take_all, take_more, take-append-drop, length-take-le, get_or_default, append_assoc, append-nil, length_push, get_or_append_left, get_or_push}
 use Rattle.std.proofs.lemmas.List.Elements.{All-head, All-tail, All-weaker, All-push, All-get_or, Contains-append_left, Contains-append_right, Contains-append_cases}
 use Rattle.std.proofs.lemmas.Option.{slice_get_within, get_or_from_slice_get}
-use Rattle.dg_base.proofs.Lists.{get_nothing, get_there, get_append_front, get_push_cases, get_push_last}
+use Rattle.dg_base.proofs.Lists.{get_nothing, get_there, get_append_left, get_push_cases, get_push_last}
 use Rattle.dg_base.specs.declared.Lit.{Lit}
 use Rattle.dg_base.specs.Values.{operator, truth_of}
 use Rattle.bv_term.specs.declared.term.TermId.{TermId}
@@ -226,3 +226,27 @@ blasted f g terms words are made = record {
   exact = λ s sat n within. values_below s terms words are (made.exact s sat) (suc n) n (omega arith) within;
   free = made.free;
 }
+
+-- the terms before a place are behind theirs
+terms_behind : (terms : List Term) (i : ℕ) → AreTerms terms → (k : ℕ) (x : Term) → slice_get (take i terms) k ≡ Some x → IsBehind k x
+terms_behind terms i are k x e =
+    let listed : slice_get terms k ≡ Some x = subst (λ z. slice_get z k ≡ Some x) (take-append-drop i terms) (get_append_left (take i terms) (drop i terms) k x e) in
+    let within = slice_get_within terms k x listed in
+    subst (λ z. IsBehind k z) (get_or_from_slice_get terms k x Input listed) (are k within)
+
+-- a term is behind its place
+pub term_behind : (terms : List Term) (words : List (List Lit)) (i : ℕ) (d : Term) → i < length terms → AreTerms terms → length words ≡ length (take i terms) → IsBehind (length words) (get_or terms i d)
+term_behind terms words i d within are count =
+    let at : length words ≡ i = count ∙ length-take-le i terms (omega arith) in
+    subst (λ n. IsBehind n (get_or terms i d)) (sym at) (subst (λ z. IsBehind i z) (get_or_default terms i Input d within) (are i within))
+
+-- one more word
+pub blast_more : (f g h : Formula) (terms : List Term) (words : List (List Lit)) (w : List Lit) (i : ℕ) (d : Term) → i < length terms → AreTerms terms → Made f g (take i terms) words
+    → IsTermWord g h words (get_or terms i d) w → Made f h (take (i + 1) terms) (words ++ w ∷ [])
+blast_more f g h terms words w i d within are made word =
+    subst (λ z. Made f h z (words ++ w ∷ [])) (sym (take_more terms i d within))
+    (term_made f g h (take i terms) words (get_or terms i d) w (terms_behind terms i are) (term_behind terms words i d within are made.count) made word)
+
+-- all words
+pub blast_made : (f g : Formula) (terms : List Term) (words : List (List Lit)) (i : ℕ) → length terms ≤ i → AreTerms terms → Made f g (take i terms) words → Blasts f g terms words
+blast_made f g terms words i all are made = blasted f g terms words are (subst (λ z. Made f g z words) (take_all i terms all) made)
