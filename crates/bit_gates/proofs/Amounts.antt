@@ -35,19 +35,19 @@ right_none f a amount fill over = word_of_older f a (λ s. filled_shift (value s
     same false n h = omega arith
 
 -- one step
-pub left_more : (f g h : Formula) (a amount word moved w : List Lit) (no d : Lit) (j p : ℕ) → j < 5 → p ≡ 2 ^ j → length amount ≡ 32 → HasValue f.clauses no (λ _. false)
-    → moved ≡ replicate p no ++ take (32 - p) word
+pub left_more : (f g h : Formula) (a amount word moved w : List Lit) (off d : Lit) (j p : ℕ) → j < 5 → p ≡ 2 ^ j → length amount ≡ 32 → HasValue f.clauses off (λ _. false)
+    → moved ≡ replicate p off ++ take (32 - p) word
     → IsWordGate f g word (λ s. (number s a * 2 ^ number s (take j amount)) % 2 ^ 32)
     → IsWordGate g h w (λ s. if value s (get_or amount j d) then number s moved else number s word)
     → IsWordGate f h w (λ s. (number s a * 2 ^ number s (take (j + 1) amount)) % 2 ^ 32)
-left_more f g h a amount word moved w no d j p within at long never e far step =
+left_more f g h a amount word moved w off d j p within at long never e far step =
     word_as f h w (λ s. if value s (get_or amount j d) then number s moved else number s word) (λ s. (number s a * 2 ^ number s (take (j + 1) amount)) % 2 ^ 32)
     (word_behind f g h w (λ s. if value s (get_or amount j d) then number s moved else number s word) far.extends step)
     (λ s sat.
     let at_g = older g h s step.extends sat in
-    let is_no = never s (older f g s far.extends at_g) in
+    let is_off = never s (older f g s far.extends at_g) in
     let few = few_places j within in
-    let up = number_up s p word moved no (omega arith) far.over.0 is_no e in
+    let up = number_up s p word moved off (omega arith) far.over.0 is_off e in
     let before = far.exact s at_g in
     ap (λ z. if value s (get_or amount j d) then z else number s word) up
     ∙ ap (λ z. if value s (get_or amount j d) then (z * 2 ^ p) % 2 ^ 32 else z) before

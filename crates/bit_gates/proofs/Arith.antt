@@ -15,7 +15,7 @@ use Rattle.bit_gates.specs.Words.{bit_of, word_of, filled_shift}
 
 -- twice a power
 pub twice : (i : ℕ) → 2 ^ (i + 1) ≡ 2 * 2 ^ i
-twice i = omega arith
+twice i = pow-add 2 i 1 ∙ omega arith
 
 -- one place of an adder
 pub sum_step : (P n k A B c s next x y : ℕ) → n + P * k ≡ A + B + c → s + 2 * next ≡ x + y + k → (n + P * s) + (2 * P) * next ≡ (A + P * x) + (B + P * y) + c

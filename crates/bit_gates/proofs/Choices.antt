@@ -185,11 +185,11 @@ bitwise_made f g w a b kind i e long_a long_b far =
 
 -- what holds of no bit
 pub choice_none : (f : Formula) (a b : List Lit) (c always : Lit) → IsOver f.vars always → SoFar f f (replicate 32 always) 0 (λ s. if value s c then number s (take 0 a) else number s (take 0 b))
-choice_none f a b c always over = none_so_far f always (λ s. if value s c then number s (take 0 a) else number s (take 0 b)) over (λ s. none (value s c))
+choice_none f a b c always over = none_so_far f always (λ s. if value s c then number s (take 0 a) else number s (take 0 b)) over (λ s. none (value s c) 0 refl)
   where
-    none : (b : Bool) → (if b then 0 else 0) ≡ 0
-    none true = refl
-    none false = refl
+    none : (b : Bool) (n : ℕ) → n ≡ 0 → (if b then n else n) ≡ 0
+    none true n e = e
+    none false n e = e
 
 pub any_none : (f : Formula) (a : List Lit) (always : Lit) → IsOver f.vars always → HasValue f.clauses always (λ _. false) → IsGate f f always (λ s. nat_lt 0 (number s (take 0 a)))
 any_none f a always over exact = gate_of_older f always (λ s. nat_lt 0 (number s (take 0 a))) over exact

@@ -21,7 +21,7 @@ pub divided_step : (f g h k : Formula) (before longer inverse rest b behind : Li
     → IsGate g h bit (λ s. value s (get_or before 31 d) || value s carry)
     → IsWordGate h k behind (λ s. if value s bit then number s rest else number s longer)
     → IsDivisionStep f k before next b bit behind
-divided_step f g h k before longer inverse rest b behind next always carry bit d long long_b long_l e n yes difference top choice = record {
+divided_step f g h k before longer inverse rest b behind next always carry bit d long long_b long_l e n ones difference top choice = record {
   bit_over = lit_more h k bit choice.extends top.over;
   over = choice.over;
   exact = λ s sat below.
@@ -29,7 +29,7 @@ divided_step f g h k before longer inverse rest b behind next always carry bit d
       let at_g = older g h s top.extends at_h in
       let at_f = older f g s difference.extends at_g in
       let rest_long = difference.over.0 in
-      let one : truth_of (value s always) ≡ 1 = ap truth_of (yes s at_f) in
+      let one : truth_of (value s always) ≡ 1 = ap truth_of (ones s at_f) in
       let inverse_long : length inverse ≡ 32 = ap length n ∙ length-map b negated ∙ long_b in
       let inverted : number s inverse + number s b + 1 ≡ 2 ^ 32 = ap (λ z. number s z + number s b + 1) n ∙ number-inverse s b ∙ ap (λ z. 2 ^ z) long_b in
       let sum : number s rest + 2 ^ 32 * truth_of (value s carry) ≡ number s longer + number s inverse + truth_of (value s always) =

@@ -38,8 +38,8 @@ down_over n p w moved fill few (long, over) fill_over e =
 -- the number moved up
 pub number_up : (s : List Bool) (p : ℕ) (w moved : List Lit) (fill : Lit) → p ≤ 32 → length w ≡ 32 → value s fill ≡ false → moved ≡ replicate p fill ++ take (32 - p) w
     → number s moved ≡ (number s w * 2 ^ p) % 2 ^ 32
-number_up s p w moved fill few long no e =
-    let none = number-replicate_false s p fill no in
+number_up s p w moved fill few long off e =
+    let none = number-replicate_false s p fill off in
     let low = number-take s (32 - p) w (omega arith) in
     ap (number s) e ∙ number-append s (replicate p fill) (take (32 - p) w)
     ∙ ap (λ z. z + 2 ^ length (replicate p fill) * number s (take (32 - p) w)) none
@@ -55,17 +55,28 @@ pub number_down : (s : List Bool) (p : ℕ) (w moved : List Lit) (fill : Lit) �
     → number s moved ≡ filled_shift (value s fill) (number s w) p
 number_down s p w moved fill few long e = by_fill (value s fill) refl
   where
+    times_zero : (n m : ℕ) → n + m * 0 ≡ n
+    times_zero n m = omega arith
+
+    times : (P r Q : ℕ) → r + 1 ≡ Q → P * r + P ≡ P * Q
+    times P r Q e = rw (← e) (omega arith)
+
+    filled : (h P Q r i : ℕ) → r + 1 ≡ Q → P * Q ≡ 2 ^ 32 → i + h + 1 ≡ P → h + P * r ≡ 2 ^ 32 - 1 - i
+    filled h P Q r i ones powers high =
+        let all : P * r + P ≡ 2 ^ 32 = times P r Q ones ∙ powers in
+        omega arith
+
     split : number s moved ≡ number s (drop p w) + 2 ^ (32 - p) * number s (replicate p fill)
     split =
         ap (number s) e ∙ number-append s (drop p w) (replicate p fill)
         ∙ ap (λ z. number s (drop p w) + 2 ^ z * number s (replicate p fill)) (length-drop p w ∙ ap (λ n. n - p) long)
 
     by_fill : (b : Bool) → value s fill ≡ b → number s moved ≡ filled_shift b (number s w) p
-    by_fill false no =
-        let none = number-replicate_false s p fill no in
+    by_fill false off =
+        let none = number-replicate_false s p fill off in
         split ∙ ap (λ z. number s (drop p w) + 2 ^ (32 - p) * z) none ∙ times_zero (number s (drop p w)) (2 ^ (32 - p)) ∙ number-drop s p w (omega arith)
-    by_fill true yes =
-        let ones = number-replicate_true s p fill yes in
+    by_fill true on =
+        let ones = number-replicate_true s p fill on in
         let powers : 2 ^ (32 - p) * 2 ^ p ≡ 2 ^ 32 = sym (pow-add 2 (32 - p) p) ∙ ap (λ n. 2 ^ n) (omega arith) in
         let inverse : number s (map negated w) + number s w + 1 ≡ 2 ^ 32 = number-inverse s w ∙ ap (λ n. 2 ^ n) long in
         let moved_inverse : number s (map negated (drop p w)) ≡ number s (map negated w) / 2 ^ p =
@@ -75,33 +86,22 @@ number_down s p w moved fill few long e = by_fill (value s fill) refl
         split ∙ filled (number s (drop p w)) (2 ^ (32 - p)) (2 ^ p) (number s (replicate p fill)) (number s (map negated (drop p w))) ones powers high
         ∙ ap (λ z. 2 ^ 32 - 1 - z) (moved_inverse ∙ ap (λ z. z / 2 ^ p) turned)
 
-    times_zero : (n m : ℕ) → n + m * 0 ≡ n
-    times_zero n m = omega arith
-
-    filled : (h P Q r i : ℕ) → r + 1 ≡ Q → P * Q ≡ 2 ^ 32 → i + h + 1 ≡ P → h + P * r ≡ 2 ^ 32 - 1 - i
-    filled h P Q r i ones powers high =
-        let all : P * r + P ≡ 2 ^ 32 = times P r Q ones ∙ powers in
-        omega arith
-
-    times : (P r Q : ℕ) → r + 1 ≡ Q → P * r + P ≡ P * Q
-    times P r Q e = rw (← e) (omega arith)
-
 -- one row of a product
-pub row_added : (f g h : Formula) (sum a row moved zero w : List Lit) (bit no : Lit) (p : ℕ) → p < 32 → length a ≡ 32 → moved ≡ replicate p no ++ take (32 - p) a
-    → HasValue f.clauses no (λ _. false) → Spells f.clauses zero (λ _. 0)
+pub row_added : (f g h : Formula) (sum a row moved zero w : List Lit) (bit off : Lit) (p : ℕ) → p < 32 → length a ≡ 32 → moved ≡ replicate p off ++ take (32 - p) a
+    → HasValue f.clauses off (λ _. false) → Spells f.clauses zero (λ _. 0)
     → IsWordGate f g row (λ s. if value s bit then number s moved else number s zero)
-    → IsWordGate g h w (λ s. (number s sum + number s row + truth_of (value s no)) % 2 ^ 32)
+    → IsWordGate g h w (λ s. (number s sum + number s row + truth_of (value s off)) % 2 ^ 32)
     → IsWordGate f h w (λ s. (number s sum + truth_of (value s bit) * (number s a * 2 ^ p)) % 2 ^ 32)
-row_added f g h sum a row moved zero w bit no p few long e never none first second =
-    word_as f h w (λ s. (number s sum + number s row + truth_of (value s no)) % 2 ^ 32) (λ s. (number s sum + truth_of (value s bit) * (number s a * 2 ^ p)) % 2 ^ 32)
-    (word_behind f g h w (λ s. (number s sum + number s row + truth_of (value s no)) % 2 ^ 32) first.extends second)
+row_added f g h sum a row moved zero w bit off p few long e never none first second =
+    word_as f h w (λ s. (number s sum + number s row + truth_of (value s off)) % 2 ^ 32) (λ s. (number s sum + truth_of (value s bit) * (number s a * 2 ^ p)) % 2 ^ 32)
+    (word_behind f g h w (λ s. (number s sum + number s row + truth_of (value s off)) % 2 ^ 32) first.extends second)
     (λ s sat.
     let at_g = older g h s second.extends sat in
     let at_f = older f g s first.extends at_g in
-    let is_no = never s at_f in
-    ap (λ z. (number s sum + z + truth_of (value s no)) % 2 ^ 32)
-    (first.exact s at_g ∙ ap (λ z. if value s bit then z else number s zero) (number_up s p a moved no (omega arith) long is_no e) ∙ ap (λ z. if value s bit then (number s a * 2 ^ p) % 2 ^ 32 else z) (none s at_f))
-    ∙ ap (λ z. (number s sum + (if value s bit then (number s a * 2 ^ p) % 2 ^ 32 else 0) + truth_of z) % 2 ^ 32) is_no
+    let is_off = never s at_f in
+    ap (λ z. (number s sum + z + truth_of (value s off)) % 2 ^ 32)
+    (first.exact s at_g ∙ ap (λ z. if value s bit then z else number s zero) (number_up s p a moved off (omega arith) long is_off e) ∙ ap (λ z. if value s bit then (number s a * 2 ^ p) % 2 ^ 32 else z) (none s at_f))
+    ∙ ap (λ z. (number s sum + (if value s bit then (number s a * 2 ^ p) % 2 ^ 32 else 0) + truth_of z) % 2 ^ 32) is_off
     ∙ row_sum (number s sum) (number s a * 2 ^ p) (value s bit))
 
 pub product_none : (f : Formula) (a b zero : List Lit) → IsWordOver f.vars zero → Spells f.clauses zero (λ _. 0) → IsWordGate f f zero (λ s. (number s a * number s (take 0 b)) % 2 ^ 32)

@@ -15,7 +15,8 @@ pub fn constant_word(gates: &Gates, constant: u32) -> Word
 {
     let mut word = [gates.constant(true); 32];
     for i in 0..32 {
-        word[i] = gates.constant((constant >> i) & 1 == 1);
+        let bit = gates.constant((constant >> i) & 1 == 1);
+        word[i] = bit;
     }
     word
 }

@@ -5,4 +5,4 @@ use Rattle.bit_gates.specs.Words.{number, IsSum}
 use Rattle.bit_gates.proofs.adder.low_sum.Given as goal
 
 abbrev pub invariant-loop-i : goal.invariant-loop-i
-invariant-loop-i l = IsSum l.initial.gates l.gates l.word l.next l.i (λ s. number s (take l.i l.a) + number s (take l.i l.b) + truth_of (value s l.carry))
+invariant-loop-i l = IsSum l.initial.gates l.gates l.word l.next l.i (λ s. number s (take l.i l.a) + number s (take l.i l.b) + truth_of (value s l.fn.carry))

@@ -12,8 +12,8 @@ loop-i-preserved c = any_more _ _ _ c.args.a.now _ _ (record { 0 = 0 }) c.loop-i
 pub returns : goal.returns
 returns c = any_made _ _ c.args.a.now _ c.loop-i.i (omega arith) c.requires.0 c.loop-i.invariant
 
-pub or-any-requires-clause-first : goal.or-any-requires-clause-first
-or-any-requires-clause-first c = c.loop-i.invariant.over
+pub or-requires-clause-first : goal.or-requires-clause-first
+or-requires-clause-first c = c.loop-i.invariant.over
 
-pub or-any-requires-clause-second : goal.or-any-requires-clause-second
-or-any-requires-clause-second c = bit_over _ c.args.a.now c.loop-i.i (record { 0 = 0 }) c.loop-i-test.true (word_more _ _ c.args.a.now c.loop-i.invariant.extends c.requires)
+pub or-requires-clause-second : goal.or-requires-clause-second
+or-requires-clause-second c = bit_over _ c.args.a.now c.loop-i.i (record { 0 = 0 }) c.loop-i-test.true (word_more _ _ c.args.a.now c.loop-i.invariant.extends c.requires)

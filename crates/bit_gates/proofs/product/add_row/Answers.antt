@@ -10,14 +10,14 @@ moved_up-requires-clause-few c = let few = c.requires.few in omega arith
 pub moved_up-requires-clause-long : goal.moved_up-requires-clause-long
 moved_up-requires-clause-long c = c.requires.second.0
 
-pub choose_word-row-requires-clause-choice : goal.choose_word-row-requires-clause-choice
-choose_word-row-requires-clause-choice c = c.requires.third
+pub choose_word-requires-clause-choice : goal.choose_word-requires-clause-choice
+choose_word-requires-clause-choice c = c.requires.third
 
-pub choose_word-row-requires-clause-first : goal.choose_word-row-requires-clause-first
-choose_word-row-requires-clause-first c = let few = c.requires.few in up_over _ c.args.places c.args.a.now c.moved_up.result c.constant-no.result (omega arith) c.requires.second c.constant-no.ensures.over c.moved_up.ensures
+pub choose_word-requires-clause-first : goal.choose_word-requires-clause-first
+choose_word-requires-clause-first c = let few = c.requires.few in up_over _ c.args.places c.args.a.now c.moved_up.result c.constant-no.result (omega arith) c.requires.second c.constant-no.ensures.over c.moved_up.ensures
 
-pub choose_word-row-requires-clause-second : goal.choose_word-row-requires-clause-second
-choose_word-row-requires-clause-second c = c.constant_word-zero.ensures.over
+pub choose_word-requires-clause-second : goal.choose_word-requires-clause-second
+choose_word-requires-clause-second c = c.constant_word-zero.ensures.over
 
 pub add-requires-clause-first : goal.add-requires-clause-first
 add-requires-clause-first c = word_more _ _ c.args.sum.now c.in_ok-row.ensures.extends c.requires.first

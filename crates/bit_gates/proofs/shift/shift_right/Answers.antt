@@ -1,5 +1,6 @@
 use Rattle.std.proofs.Common.{arith}
 use Rattle.std.proofs.Common.{refl}
+use Rattle.bit_gates.proofs.Arith.{twice}
 use Rattle.bit_gates.proofs.Steps.{bit_over, lit_more, word_more}
 use Rattle.bit_gates.proofs.Shifts.{down_over}
 use Rattle.bit_gates.proofs.Amounts.{few_places, right_none, right_more, right_made}
@@ -14,15 +15,15 @@ moved_down-lower-requires-clause-few c = let few = few_places c.loop-j.j c.loop-
 pub moved_down-lower-requires-clause-long : goal.moved_down-lower-requires-clause-long
 moved_down-lower-requires-clause-long c = c.loop-j.invariant.moved.over.0
 
-pub choose_word-word-requires-clause-choice : goal.choose_word-word-requires-clause-choice
-choose_word-word-requires-clause-choice c = bit_over _ c.args.amount.now c.loop-j.j (record { 0 = 0 }) (omega arith) (word_more _ _ c.args.amount.now c.loop-j.invariant.moved.extends c.requires.second)
+pub choose_word-requires-clause-choice : goal.choose_word-requires-clause-choice
+choose_word-requires-clause-choice c = bit_over _ c.args.amount.now c.loop-j.j (record { 0 = 0 }) (omega arith) (word_more _ _ c.args.amount.now c.loop-j.invariant.moved.extends c.requires.second)
 
-pub choose_word-word-requires-clause-first : goal.choose_word-word-requires-clause-first
-choose_word-word-requires-clause-first c = let few = few_places c.loop-j.j c.loop-j-test.true in let e = c.loop-j.invariant.places in
+pub choose_word-requires-clause-first : goal.choose_word-requires-clause-first
+choose_word-requires-clause-first c = let few = few_places c.loop-j.j c.loop-j-test.true in let e = c.loop-j.invariant.places in
     down_over _ c.loop-j.places c.loop-j.word c.moved_down-lower.result c.args.fill (omega arith) c.loop-j.invariant.moved.over (lit_more _ _ c.args.fill c.loop-j.invariant.moved.extends c.requires.third) c.moved_down-lower.ensures
 
-pub choose_word-word-requires-clause-second : goal.choose_word-word-requires-clause-second
-choose_word-word-requires-clause-second c = c.loop-j.invariant.moved.over
+pub choose_word-requires-clause-second : goal.choose_word-requires-clause-second
+choose_word-requires-clause-second c = c.loop-j.invariant.moved.over
 
 pub overflow_mul-places : goal.overflow_mul-places
 overflow_mul-places c = let few = few_places c.loop-j.j c.loop-j-test.true in let e = c.loop-j.invariant.places in omega arith
@@ -30,7 +31,7 @@ overflow_mul-places c = let few = few_places c.loop-j.j c.loop-j-test.true in le
 pub loop-j-preserved : goal.loop-j-preserved
 loop-j-preserved c = record {
   moved = right_more _ _ _ c.args.a.now c.args.amount.now c.loop-j.word c.moved_down-lower.result _ c.args.fill (record { 0 = 0 }) c.loop-j.j c.loop-j.places c.loop-j-test.true c.loop-j.invariant.places c.requires.first.0 c.requires.second.0 c.moved_down-lower.ensures c.loop-j.invariant.moved c.in_ok-word.ensures;
-  places = let e = c.loop-j.invariant.places in omega arith;
+  places = let e = c.loop-j.invariant.places in let more = twice c.loop-j.j in omega arith;
 }
 
 pub returns : goal.returns
