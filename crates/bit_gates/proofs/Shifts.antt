@@ -77,7 +77,8 @@ number_down s p w moved fill few long e = by_fill (value s fill) refl
         split ∙ ap (λ z. number s (drop p w) + 2 ^ (32 - p) * z) none ∙ times_zero (number s (drop p w)) (2 ^ (32 - p)) ∙ number-drop s p w (omega arith)
     by_fill true on =
         let ones = number-replicate_true s p fill on in
-        let powers : 2 ^ (32 - p) * 2 ^ p ≡ 2 ^ 32 = sym (pow-add 2 (32 - p) p) ∙ ap (λ n. 2 ^ n) (omega arith) in
+        let places : 32 - p + p ≡ 32 = omega arith in
+        let powers : 2 ^ (32 - p) * 2 ^ p ≡ 2 ^ 32 = sym (pow-add 2 (32 - p) p) ∙ ap (λ n. 2 ^ n) places in
         let inverse : number s (map negated w) + number s w + 1 ≡ 2 ^ 32 = number-inverse s w ∙ ap (λ n. 2 ^ n) long in
         let moved_inverse : number s (map negated (drop p w)) ≡ number s (map negated w) / 2 ^ p =
         ap (number s) (sym (drop-map negated p w)) ∙ number-drop s p (map negated w) (let l = length-map w negated in omega arith) in
