@@ -1,3 +1,4 @@
+pub mod Groups
 pub mod Growth
 pub mod Operators
 pub mod Signed

@@ -16,7 +16,7 @@ use Rattle.std.proofs.lemmas.List.{take_all, length-set}
 use Rattle.std.proofs.lemmas.List.Elements.{All-set, All-get_or}
 use Rattle.bit_gates.proofs.Numbers.{number_more, number_written, number_low}
 use Rattle.bit_gates.proofs.Shifts.{word_fits}
-use Rattle.bit_gates.proofs.Steps.{older, gate_as}
+use Rattle.bit_gates.proofs.Steps.{older, gate_as, word_as}
 
 -- a word below 2^31 is itself, one from there on is negative
 small : (a : ℕ) → a < 2 ^ 31 → int_of a ≡ pos a
@@ -132,6 +132,13 @@ sign_of s w d long =
     by_bit : (n m : ℕ) (b : Bool) → n ≡ m + 2 ^ 31 * truth_of b → m < 2 ^ 31 → HasSign n b
     by_bit n m true e h = omega arith
     by_bit n m false e h = omega arith
+
+-- a shift with the sign bit in the places above
+pub shifted_int : (f g : Formula) (w a b : List Lit) (d : Lit) → length a ≡ 32 → IsWordGate f g w (λ s. filled_shift (value s (get_or a 31 d)) (number s a) (number s b % 32))
+    → IsWordGate f g w (λ s. shift_right_int (number s a) (number s b))
+shifted_int f g w a b d long gate =
+    word_as f g w (λ s. filled_shift (value s (get_or a 31 d)) (number s a) (number s b % 32)) (λ s. shift_right_int (number s a) (number s b)) gate
+    (λ s sat. signed_shift (number s a) (number s b) (value s (get_or a 31 d)) (word_fits s a long) (sign_of s a d long))
 
 -- a word with its sign bit flipped
 pub flipped_over : (n : ℕ) (w : List Lit) (l d : Lit) → l ≡ negated (get_or w 31 d) → IsWordOver n w → IsWordOver n (set w 31 l)

@@ -9,6 +9,7 @@ ghost use Rattle.bit_blast.specs.Blasting.{Blasts};
 mod operators;
 mod signed;
 mod term_words;
+mod truths;
 
 use crate::term_words::term_word;
 use bit_gates::Word;
