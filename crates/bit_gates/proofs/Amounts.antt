@@ -1,9 +1,9 @@
 -- Shifts in five steps.
-use Rattle.std.proofs.Common.{◌≡◌, ℕ, zero, suc, ◌+◌, ◌-◌, ◌*◌, ◌/◌, ◌%◌, ◌^◌, ◌<◌, ◌≤◌, Bool, true, false, List, ◌++◌, length, take, drop, get_or, refl, ap, sym, ◌∙◌, arith}
+use Rattle.std.proofs.Common.{◌≡◌, ℕ, zero, suc, ◌+◌, ◌-◌, ◌*◌, ◌%◌, ◌^◌, ◌<◌, ◌≤◌, Bool, true, false, List, ◌++◌, length, take, drop, get_or, ap, sym, ◌∙◌, arith}
 use Rattle.std.specs.Prelude.{if◌then◌else◌, replicate}
 use Rattle.dg_base.specs.declared.Lit.{Lit}
 use Rattle.dg_base.specs.Values.{truth_of}
-use Rattle.cnf_problem.specs.Literals.{value, IsOver}
+use Rattle.cnf_problem.specs.Literals.{value}
 use Rattle.cnf_problem.specs.Formulas.{Formula, HasValue}
 use Rattle.bit_gates.specs.Words.{number, filled_shift, IsWordOver, IsWordGate}
 use Rattle.bit_gates.proofs.Arith.{up_step, down_step}

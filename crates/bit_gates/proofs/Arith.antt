@@ -1,10 +1,10 @@
 -- What each operator does to numbers, bit by bit.
-use Rattle.std.proofs.Common.{◌≡◌, ℕ, zero, suc, ◌+◌, ◌-◌, ◌*◌, ◌/◌, ◌%◌, ◌^◌, ◌<◌, ◌≤◌, ◌⊎◌, inl, inr, Bool, true, false, not, ◌&&◌, ◌||◌, refl, ap, sym, ◌∙◌, subst, arith}
+use Rattle.std.proofs.Common.{◌≡◌, ℕ, zero, suc, ◌+◌, ◌-◌, ◌*◌, ◌/◌, ◌%◌, ◌^◌, ◌<◌, inl, inr, Bool, true, false, not, ◌&&◌, ◌||◌, refl, ap, sym, ◌∙◌, arith}
 use Rattle.std.specs.Prelude.{nat_lt, nat_eq, cond, if◌then◌else◌, bit_and, bit_or, bit_xor}
 use Rattle.std.specs.Bool.{xor}
 use mathlib.Core.Bool.{xor as the_xor}
 use Rattle.std.proofs.lemmas.Bool.Decides.{nat_tests}
-use Rattle.std.proofs.lemmas.Nat.{and_block, or_block, xor_block, mod-pow-add, pow-add, mul-mod_first, shr-shr, shr_le, div-mul-add, mod-mul-add, shr_split, mod_below, pow_pos, mul-lt}
+use Rattle.std.proofs.lemmas.Nat.{and_block, or_block, xor_block, mod-pow-add, pow-add, mul-mod_first, shr-shr, shr_le, div-mul-add, mod-mul-add, shr_split, mod_below, pow_pos}
 use Rattle.std.proofs.lemmas.Bool.{cases_eq, cases_lt}
 use Rattle.std.specs.Int.{bit_at}
 use Rattle.std.proofs.lemmas.Nat.Bits.{shr_and_one, same_from_bits, bit_at_xor, bit_at-zero, bit_at-lt}

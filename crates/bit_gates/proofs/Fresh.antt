@@ -1,16 +1,16 @@
 -- New variables, one behind another.
-use Rattle.std.proofs.Common.{◌≡◌, ◌≢◌, ℕ, zero, suc, ◌+◌, ◌-◌, ◌*◌, ◌/◌, ◌%◌, ◌^◌, ◌<◌, ◌≤◌, ◌⊎◌, inl, inr, Bool, true, false, List, [], ◌∷◌, ◌++◌, length, take, set, get_or, refl, ap, sym, ◌∙◌, subst, arith, get_or-set_other, get_or-set_same}
+use Rattle.std.proofs.Common.{◌≡◌, ◌≢◌, ℕ, zero, suc, ◌+◌, ◌*◌, ◌/◌, ◌%◌, ◌^◌, ◌<◌, inl, inr, Bool, false, List, [], ◌∷◌, ◌++◌, length, take, set, get_or, refl, ap, sym, ◌∙◌, subst, arith, get_or-set_other, get_or-set_same}
 use Rattle.std.specs.Prelude.{All, Contains, replicate, nat_eq}
 use Rattle.std.proofs.lemmas.Bool.{cases_lt}
-use Rattle.std.proofs.lemmas.List.{append-nil, append_assoc, length_push, length-set, length-replicate, length-append, length-take-le, take_more, take_all, get_or-append-add}
+use Rattle.std.proofs.lemmas.List.{append-nil, append_assoc, length-set, length-replicate, length-take-le, take_more, take_all, get_or-append-add}
 use Rattle.std.proofs.lemmas.List.Elements.{All-set, All-replicate}
 use Rattle.dg_base.specs.declared.Lit.{Lit}
 use Rattle.dg_base.specs.Values.{truth_of}
 use Rattle.cnf_problem.specs.Literals.{value, positive, IsOver, IsSatisfied}
-use Rattle.cnf_problem.specs.Formulas.{Formula, Extension, Extends, AddsFree}
+use Rattle.cnf_problem.specs.Formulas.{Formula, Extension, AddsFree}
 use Rattle.cnf_problem.proofs.Assignments.{value-positive, each_satisfied, over_next}
 use Rattle.cnf_problem.proofs.GateLaws.{extends_free}
-use Rattle.bit_gates.specs.Words.{number, IsWordOver, AddsWord}
+use Rattle.bit_gates.specs.Words.{number, AddsWord}
 use Rattle.bit_gates.proofs.Steps.{all_more}
 
 -- the first so many literals of a word are new variables

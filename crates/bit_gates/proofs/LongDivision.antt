@@ -1,7 +1,7 @@
 -- Long division, bit by bit.
-use Rattle.std.proofs.Common.{◌≡◌, ℕ, ◌+◌, ◌-◌, ◌*◌, ◌/◌, ◌%◌, ◌^◌, ◌<◌, ◌≤◌, Bool, true, false, ◌||◌, List, [], ◌∷◌, ◌++◌, map, length, take, drop, set, get_or, refl, ap, sym, ◌∙◌, subst, arith}
-use Rattle.std.specs.Prelude.{if◌then◌else◌, cond, nat_lt, nat_eq, replicate}
-use Rattle.std.proofs.lemmas.List.{take_all, drop_all, length-set, drop-set-lt, length-map}
+use Rattle.std.proofs.Common.{◌≡◌, ℕ, ◌+◌, ◌-◌, ◌*◌, ◌^◌, ◌<◌, Bool, true, ◌||◌, List, ◌∷◌, map, length, take, drop, set, get_or, ap, sym, ◌∙◌, arith}
+use Rattle.std.specs.Prelude.{if◌then◌else◌, nat_lt}
+use Rattle.std.proofs.lemmas.List.{take_all, drop_all, length-set, length-map}
 use Rattle.std.proofs.lemmas.List.Elements.{All-set}
 use Rattle.dg_base.specs.declared.Lit.{Lit}
 use Rattle.dg_base.specs.Values.{truth_of}
@@ -10,7 +10,7 @@ use Rattle.cnf_problem.specs.Formulas.{Formula, HasValue, Extends, IsGate}
 use Rattle.cnf_problem.proofs.GateLaws.{extends_self, extends_steps}
 use Rattle.bit_gates.specs.Words.{number, IsWordOver, Spells, IsWordGate, IsSum, IsDivisionStep, IsLongDivision, IsDivision}
 use Rattle.bit_gates.proofs.Arith.{restore, quotient_step, quotient_is, remainder_is}
-use Rattle.bit_gates.proofs.Numbers.{truth_below, number_more, number_from, number_from_written, number-inverse, number_below}
+use Rattle.bit_gates.proofs.Numbers.{truth_below, number_more, number_from, number_from_written, number-inverse}
 use Rattle.bit_gates.proofs.Steps.{older, lit_more, all_more, word_more}
 use Rattle.bit_gates.proofs.Shifts.{word_fits}
 

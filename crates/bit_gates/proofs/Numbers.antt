@@ -1,8 +1,8 @@
 -- The numbers that lists of literals spell.
-use Rattle.std.proofs.Common.{◌≡◌, ℕ, zero, suc, ◌+◌, ◌-◌, ◌*◌, ◌/◌, ◌%◌, ◌^◌, ◌<◌, ◌≤◌, Bool, true, false, not, List, [], ◌∷◌, ◌++◌, map, length, take, drop, set, get_or, refl, ap, sym, ◌∙◌, subst, arith}
+use Rattle.std.proofs.Common.{◌≡◌, ℕ, zero, suc, ◌+◌, ◌*◌, ◌/◌, ◌%◌, ◌^◌, ◌<◌, ◌≤◌, Bool, true, false, not, List, [], ◌∷◌, ◌++◌, map, length, take, drop, set, get_or, refl, ap, sym, ◌∙◌, subst, arith}
 use Rattle.std.specs.Prelude.{replicate}
-use Rattle.std.proofs.lemmas.List.{take_more, take_more_set, drop_more, length-take-le, take-append-drop, take-set, length-set, drop-set}
-use Rattle.std.proofs.lemmas.Nat.{pow_pos, shr_high, mod_low}
+use Rattle.std.proofs.lemmas.List.{take_more, take_more_set, drop_more, length-take-le, take-append-drop, drop-set}
+use Rattle.std.proofs.lemmas.Nat.{shr_high, mod_low}
 use Rattle.dg_base.specs.declared.Lit.{Lit}
 use Rattle.dg_base.specs.Values.{truth_of}
 use Rattle.cnf_problem.specs.Literals.{value, negated}

@@ -7,12 +7,11 @@ use Rattle.std.proofs.lemmas.Nat.{pow-add}
 use Rattle.dg_base.specs.declared.Lit.{Lit}
 use Rattle.dg_base.specs.Values.{truth_of}
 use Rattle.cnf_problem.specs.Literals.{value, negated, IsOver}
-use Rattle.cnf_problem.specs.Formulas.{Formula, HasValue, Extends, IsGate}
-use Rattle.cnf_problem.proofs.GateLaws.{extends_steps}
+use Rattle.cnf_problem.specs.Formulas.{Formula, HasValue}
 use Rattle.bit_gates.specs.Words.{number, filled_shift, IsWordOver, Spells, IsWordGate}
-use Rattle.bit_gates.proofs.Arith.{row_step, row_sum, up_step, down_step, moved_within}
+use Rattle.bit_gates.proofs.Arith.{row_step, row_sum, moved_within}
 use Rattle.bit_gates.proofs.Numbers.{number-append, number-take, number-drop, number_more, number_below, number-inverse, number-replicate_false, number-replicate_true}
-use Rattle.bit_gates.proofs.Steps.{older, lit_more, word_as, word_behind, word_of_older}
+use Rattle.bit_gates.proofs.Steps.{older, word_as, word_behind, word_of_older}
 
 -- a word fits 32 bits
 pub word_fits : (s : List Bool) (w : List Lit) → length w ≡ 32 → number s w < 2 ^ 32

@@ -1,5 +1,5 @@
 -- Gates one behind another, and words of them bit by bit.
-use Rattle.std.proofs.Common.{◌≡◌, ℕ, ◌+◌, ◌-◌, ◌*◌, ◌/◌, ◌%◌, ◌^◌, ◌<◌, ◌≤◌, Bool, true, false, not, ◌&&◌, ◌||◌, List, [], ◌∷◌, ◌++◌, map, length, take, drop, set, get_or, refl, ap, sym, ◌∙◌, subst, arith}
+use Rattle.std.proofs.Common.{◌≡◌, ℕ, ◌+◌, ◌*◌, ◌/◌, ◌%◌, ◌^◌, ◌<◌, Bool, not, List, [], ◌∷◌, map, length, take, set, get_or, ap, sym, ◌∙◌, subst, arith}
 use Rattle.std.specs.Prelude.{All, Contains, replicate, nat_eq, bit_and}
 use Rattle.std.proofs.lemmas.List.{take_all, length-set, length-replicate, length-map}
 use Rattle.std.proofs.lemmas.List.Elements.{All-map, All-set, All-weaker, All-get_or, All-replicate, Contains-append_left}

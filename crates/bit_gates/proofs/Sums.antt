@@ -1,17 +1,17 @@
 -- Adders.
-use Rattle.std.proofs.Common.{◌≡◌, ℕ, ◌+◌, ◌-◌, ◌*◌, ◌%◌, ◌^◌, ◌<◌, ◌≤◌, Bool, true, List, map, length, take, set, get_or, refl, ap, sym, ◌∙◌, subst, arith}
-use Rattle.std.specs.Prelude.{All, if◌then◌else◌, replicate}
+use Rattle.std.proofs.Common.{◌≡◌, ℕ, ◌+◌, ◌-◌, ◌*◌, ◌%◌, ◌^◌, ◌<◌, true, List, map, length, take, set, get_or, ap, sym, ◌∙◌, arith}
+use Rattle.std.specs.Prelude.{if◌then◌else◌, replicate}
 use Rattle.std.specs.Bool.{xor}
 use Rattle.std.proofs.lemmas.List.{take_all, length-set, length-replicate}
 use Rattle.std.proofs.lemmas.List.Elements.{All-set, All-replicate}
 use Rattle.dg_base.specs.declared.Lit.{Lit}
 use Rattle.dg_base.specs.Values.{truth_of}
 use Rattle.cnf_problem.specs.Literals.{value, negated, IsOver}
-use Rattle.cnf_problem.specs.Formulas.{Formula, HasValue, Extends, IsGate}
+use Rattle.cnf_problem.specs.Formulas.{Formula, HasValue, IsGate}
 use Rattle.cnf_problem.proofs.GateLaws.{extends_self, extends_steps}
-use Rattle.bit_gates.specs.Words.{number, IsWordOver, Spells, IsWordGate, IsBitSum, IsSum}
+use Rattle.bit_gates.specs.Words.{number, Spells, IsWordGate, IsBitSum, IsSum}
 use Rattle.bit_gates.proofs.Arith.{sum_step, adder_bits, top_step, twice}
-use Rattle.bit_gates.proofs.Numbers.{number_more, number_written, number_low, number-inverse, number_below}
+use Rattle.bit_gates.proofs.Numbers.{number_more, number_written, number_low, number-inverse}
 use Rattle.bit_gates.proofs.Steps.{older, lit_more, all_more, word_as}
 
 -- a full adder of three gates

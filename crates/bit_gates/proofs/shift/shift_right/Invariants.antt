@@ -1,4 +1,4 @@
-use Rattle.std.proofs.Common.{◌≡◌, ◌*◌, ◌%◌, ◌^◌, take}
+use Rattle.std.proofs.Common.{◌≡◌, ◌^◌, take}
 use Rattle.cnf_problem.specs.Literals.{value}
 use Rattle.bit_gates.specs.Words.{number, filled_shift, IsWordGate}
 use Rattle.bit_gates.proofs.shift.shift_right.Given as goal
