@@ -1,5 +1,5 @@
 // Words that take no gates.
-ghost use Rattle.std.specs.Prelude.{◌≡◌, ◌^◌, ◌<◌, ◌≤◌, ◌-◌, ◌++◌, length, map, take, drop, replicate, IfOk};
+ghost use Rattle.std.specs.Prelude.{◌≡◌, ◌^◌, ◌<◌, ◌≤◌, ◌-◌, ◌++◌, map, take, drop, replicate, IfOk};
 ghost use Rattle.dg_base.specs.Values.{truth_of};
 ghost use Rattle.cnf_problem.specs.Literals.{value, negated as negation, IsOver};
 ghost use Rattle.bit_gates.specs.Words.{number, IsWordOver, Spells, AddsWord};
@@ -45,7 +45,6 @@ pub fn flag(gates: &Gates, lit: Lit) -> Word
 
 /// The word with each bit inverted.
 pub fn inverted(word: &Word) -> Word
-    requires { length word.now ≡ 32 }
     ensures { result ≡ map negation word.now }
 {
     let mut inverse = *word;
@@ -57,8 +56,7 @@ pub fn inverted(word: &Word) -> Word
 
 // The word moved up by so many places, with the literal in those below.
 pub(crate) fn moved_up(word: &Word, places: usize, fill: Lit) -> Word
-    requires few { places ≤ 32 }
-    requires long { length word.now ≡ 32 }
+    requires { places ≤ 32 }
     ensures { result ≡ replicate places fill ++ take (32 - places) word.now }
 {
     let mut moved = [fill; 32];
@@ -70,8 +68,7 @@ pub(crate) fn moved_up(word: &Word, places: usize, fill: Lit) -> Word
 
 // The word moved down by so many places, with the literal in those above.
 pub(crate) fn moved_down(word: &Word, places: usize, fill: Lit) -> Word
-    requires few { places ≤ 32 }
-    requires long { length word.now ≡ 32 }
+    requires { places ≤ 32 }
     ensures { result ≡ drop places word.now ++ replicate places fill }
 {
     let mut moved = [fill; 32];

@@ -6,9 +6,6 @@ use Rattle.bit_gates.proofs.adder.subtract.Goals as goal
 pub returns : goal.returns
 returns c = ok_as c.add.result _ _ c.add.ensures (λ w gate. difference _ _ w c.args.a.now c.args.b.now c.inverted.result c.constant-carry.result c.requires.second.0 c.inverted.ensures c.constant-carry.ensures.exact gate)
 
-pub inverted-requires : goal.inverted-requires
-inverted-requires c = c.requires.second.0
-
 pub add-requires-clause-second : goal.add-requires-clause-second
 add-requires-clause-second c = inverse_over _ c.args.b.now c.inverted.result c.requires.second c.inverted.ensures
 

@@ -4,11 +4,8 @@ use Rattle.bit_gates.proofs.Steps.{lit_more, word_more}
 use Rattle.bit_gates.proofs.Shifts.{up_over, row_added}
 use Rattle.bit_gates.proofs.product.add_row.Goals as goal
 
-pub moved_up-requires-clause-few : goal.moved_up-requires-clause-few
-moved_up-requires-clause-few c = let few = c.requires.few in omega arith
-
-pub moved_up-requires-clause-long : goal.moved_up-requires-clause-long
-moved_up-requires-clause-long c = c.requires.second.0
+pub moved_up-requires : goal.moved_up-requires
+moved_up-requires c = let few = c.requires.few in omega arith
 
 pub choose_word-requires-clause-choice : goal.choose_word-requires-clause-choice
 choose_word-requires-clause-choice c = c.requires.third

@@ -4,14 +4,8 @@ use Rattle.bit_gates.proofs.Shifts.{up_over}
 use Rattle.bit_gates.proofs.LongDivision.{divided_step}
 use Rattle.bit_gates.proofs.quotient.division_step.Goals as goal
 
-pub moved_up-longer-requires-clause-few : goal.moved_up-longer-requires-clause-few
-moved_up-longer-requires-clause-few c = omega arith
-
-pub moved_up-longer-requires-clause-long : goal.moved_up-longer-requires-clause-long
-moved_up-longer-requires-clause-long c = c.requires.first.0
-
-pub inverted-requires : goal.inverted-requires
-inverted-requires c = c.requires.third.0
+pub moved_up-longer-requires : goal.moved_up-longer-requires
+moved_up-longer-requires c = omega arith
 
 pub low_sum-requires-clause-first : goal.low_sum-requires-clause-first
 low_sum-requires-clause-first c = up_over _ 1 c.args.remainder.now c.moved_up-longer.result c.args.next (omega arith) c.requires.first c.requires.second c.moved_up-longer.ensures

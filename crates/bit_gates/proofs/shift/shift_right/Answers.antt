@@ -9,11 +9,8 @@ use Rattle.bit_gates.proofs.shift.shift_right.Goals as goal
 pub loop-j-init : goal.loop-j-init
 loop-j-init c = record { moved = right_none _ c.args.a.now c.args.amount.now c.args.fill c.requires.first; places = refl }
 
-pub moved_down-lower-requires-clause-few : goal.moved_down-lower-requires-clause-few
-moved_down-lower-requires-clause-few c = let few = few_places c.loop-j.j c.loop-j-test.true in let e = c.loop-j.invariant.places in omega arith
-
-pub moved_down-lower-requires-clause-long : goal.moved_down-lower-requires-clause-long
-moved_down-lower-requires-clause-long c = c.loop-j.invariant.moved.over.0
+pub moved_down-lower-requires : goal.moved_down-lower-requires
+moved_down-lower-requires c = let few = few_places c.loop-j.j c.loop-j-test.true in let e = c.loop-j.invariant.places in omega arith
 
 pub choose_word-requires-clause-choice : goal.choose_word-requires-clause-choice
 choose_word-requires-clause-choice c = bit_over _ c.args.amount.now c.loop-j.j (record { 0 = 0 }) (omega arith) (word_more _ _ c.args.amount.now c.loop-j.invariant.moved.extends c.requires.second)

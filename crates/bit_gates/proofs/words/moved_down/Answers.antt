@@ -9,8 +9,8 @@ loop-i-init c = record { long = length-replicate 32 c.args.fill; front = refl; b
 
 pub loop-i-preserved : goal.loop-i-preserved
 loop-i-preserved c =
-    let more = down_more c.args.places c.loop-i.i c.args.word.now c.loop-i.moved c.args.fill (record { 0 = 0 }) (omega arith) c.loop-i.invariant.long c.requires.long c.loop-i.invariant.front c.loop-i.invariant.back in
+    let more = down_more c.args.places c.loop-i.i c.args.word.now c.loop-i.moved c.args.fill (record { 0 = 0 }) (omega arith) c.loop-i.invariant.long (omega arith) c.loop-i.invariant.front c.loop-i.invariant.back in
     record { long = length-set c.loop-i.moved _ _ ∙ c.loop-i.invariant.long; front = more.0; back = more.1 }
 
 pub returns : goal.returns
-returns c = down_made c.args.places c.loop-i.i c.args.word.now c.loop-i.moved c.args.fill c.requires.few (omega arith) c.requires.long c.loop-i.invariant.front c.loop-i.invariant.back
+returns c = down_made c.args.places c.loop-i.i c.args.word.now c.loop-i.moved c.args.fill c.requires (omega arith) (omega arith) c.loop-i.invariant.front c.loop-i.invariant.back
