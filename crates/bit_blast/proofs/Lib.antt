@@ -1,4 +1,4 @@
 pub mod Groups
 pub mod Growth
-pub mod Operators
-pub mod Signed
+pub mod OperatorGates
+pub mod TwosComplement

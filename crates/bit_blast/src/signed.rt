@@ -1,5 +1,5 @@
 // Words that are read in two's complement.
-ghost use Rattle.std.specs.Prelude.{◌≡◌, ◌+◌, ◌-◌, ◌%◌, ◌^◌, ◌<◌, ℕ, List, Bool, length, IfOk, int_lt, if◌then◌else◌};
+ghost use Rattle.std.specs.Prelude.{◌≡◌, ◌+◌, ◌-◌, ◌%◌, ◌^◌, ◌<◌, ℕ, List, Bool, IfOk, int_lt, if◌then◌else◌};
 ghost use Rattle.dg_base.specs.Values.{int_of, quotient_int, remainder_int};
 ghost use Rattle.bit_gates.specs.Words.{number, IsWordOver, IsWordGate};
 ghost use Rattle.cnf_problem.specs.Literals.{value, IsOver};
@@ -11,7 +11,6 @@ use dg_base::{Lit, OutOfMemory};
 
 // The word with its sign bit flipped: the order of such words is that of the numbers read in two's complement.
 fn flipped(word: &Word) -> Word
-    requires { length word.now ≡ 32 }
     ensures over { (vars : ℕ) → IsWordOver vars word.now → IsWordOver vars result }
     ensures exact { (s : List Bool) → number s result ≡ (number s word.now + 2 ^ 31) % 2 ^ 32 }
 {

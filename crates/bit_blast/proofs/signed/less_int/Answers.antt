@@ -1,12 +1,6 @@
 use Rattle.bit_gates.proofs.Choices.{ok_as}
-use Rattle.bit_blast.proofs.Signed.{less_of_flipped}
+use Rattle.bit_blast.proofs.TwosComplement.{less_of_flipped}
 use Rattle.bit_blast.proofs.signed.less_int.Goals as goal
-
-pub flipped-requires : goal.flipped-requires
-flipped-requires c = c.requires.first.0
-
-pub flipped-requires-2 : goal.flipped-requires-2
-flipped-requires-2 c = c.requires.second.0
 
 pub less-requires-clause-first : goal.less-requires-clause-first
 less-requires-clause-first c = c.flipped.ensures.over _ c.requires.first

@@ -1,6 +1,6 @@
 use Rattle.bit_gates.proofs.Choices.{ok_as}
 use Rattle.bit_gates.proofs.Steps.{lit_more, word_more}
-use Rattle.bit_blast.proofs.Signed.{negated_word}
+use Rattle.bit_blast.proofs.TwosComplement.{negated_word}
 use Rattle.bit_blast.proofs.signed.negate_if.Goals as goal
 
 pub choose_word-requires-clause-choice : goal.choose_word-requires-clause-choice

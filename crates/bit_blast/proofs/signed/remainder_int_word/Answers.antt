@@ -2,7 +2,7 @@ use Rattle.std.proofs.Common.{arith}
 use Rattle.cnf_problem.proofs.GateLaws.{extends_steps}
 use Rattle.bit_gates.proofs.Choices.{ok_as}
 use Rattle.bit_gates.proofs.Steps.{bit_over, word_more}
-use Rattle.bit_blast.proofs.Signed.{remainder_of}
+use Rattle.bit_blast.proofs.TwosComplement.{remainder_of}
 use Rattle.bit_blast.proofs.signed.remainder_int_word.Goals as goal
 
 pub negate_if-requires-clause-choice : goal.negate_if-requires-clause-choice
