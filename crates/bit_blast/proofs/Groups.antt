@@ -1,5 +1,5 @@
 -- The last operator of a group is the one that is left.
-use Rattle.std.proofs.Common.{◌≡◌, refl, arith}
+use Rattle.std.proofs.Common.{◌≡◌, arith}
 use Rattle.dg_base.specs.declared.operators.Op.{Op}
 use Rattle.dg_base.specs.declared.operators.Op.TheVariants.{Plus, Minus, Times, Negate, UnaryPlus, DivideInt, DivideUint, RemainderInt, RemainderUint, ShiftLeft, ShiftRightInt, ShiftRightUint, LessInt, AtMostInt, GreaterInt, AtLeastInt, LessUint, AtMostUint, GreaterUint, AtLeastUint, Equal, NotEqual, BitAnd, BitOr, BitXor, BitNot, LogicNot, LogicAnd, LogicOr, Choose}
 use Rattle.dg_base.specs.Values.{group, Arithmetic, Division, Shift, OrderInt, OrderUint, Bits, Logic}

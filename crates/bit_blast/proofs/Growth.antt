@@ -1,22 +1,21 @@
 -- The words of terms, one behind another.
-use Rattle.std.proofs.Common.{◌≡◌, ℕ, zero, suc, ◌+◌, ◌*◌, ◌^◌, ◌<◌, ◌≤◌, ◌⊎◌, inl, inr, Bool, List, [], ◌∷◌, ◌++◌, length, take, drop, get_or, refl, ap, sym, ◌∙◌, subst, arith, Some}
+use Rattle.std.proofs.Common.{◌≡◌, ℕ, zero, suc, ◌+◌, ◌^◌, ◌<◌, ◌≤◌, inl, inr, Bool, List, [], ◌∷◌, ◌++◌, length, take, drop, get_or, refl, ap, sym, ◌∙◌, subst, arith, Some}
 use Rattle.std.specs.Prelude.{All, Contains, slice_get}
 use Rattle.std.proofs.lemmas.List.{take_all, take_more, take-append-drop, length-take-le, get_or_default, append_assoc, append-nil, length_push, get_or_append_left, get_or_push}
 use Rattle.std.proofs.lemmas.List.Elements.{All-head, All-tail, All-weaker, All-push, All-get_or, Contains-append_left, Contains-append_right, Contains-append_cases}
 use Rattle.std.proofs.lemmas.Option.{slice_get_within, get_or_from_slice_get}
-use Rattle.dg_base.proofs.Lists.{get_nothing, get_there, get_append_left, get_push_cases, get_push_last}
+use Rattle.dg_base.proofs.Lists.{get_nothing, get_there, get_append_left, get_push_cases}
 use Rattle.dg_base.specs.declared.Lit.{Lit}
-use Rattle.dg_base.specs.Values.{operator, truth_of}
-use Rattle.bv_term.specs.declared.term.TermId.{TermId}
+use Rattle.dg_base.specs.Values.{operator}
 use Rattle.bv_term.specs.declared.term.Term.{Term}
 use Rattle.bv_term.specs.declared.term.Term.TheVariants.{Input, Constant, Apply}
 use Rattle.bv_term.specs.Values.{AreTerms, AreWords, IsBehind, value as term_value}
 use Rattle.bv_term.proofs.ValueLaws.{value_by_term}
-use Rattle.cnf_problem.specs.Literals.{value, IsOver, IsSatisfied, AreSatisfied}
-use Rattle.cnf_problem.specs.Formulas.{Formula, Extension, Extends}
+use Rattle.cnf_problem.specs.Literals.{IsOver, IsSatisfied, AreSatisfied}
+use Rattle.cnf_problem.specs.Formulas.{Formula, Extension}
 use Rattle.cnf_problem.proofs.Assignments.{value-append, over_more}
-use Rattle.bit_gates.specs.Words.{number, IsWordOver, IsWordGate, AddsWord}
-use Rattle.bit_blast.specs.Blasting.{word_at, inputs_under, SpellsTerms, SpellsInputs, InputChoice, Blasts, IsTermWord}
+use Rattle.bit_gates.specs.Words.{number, IsWordOver}
+use Rattle.bit_blast.specs.Blasting.{word_at, inputs_under, InputChoice, Blasts, IsTermWord}
 
 -- a word over the older variables keeps its number
 pub number-kept : (s t : List Bool) (w : List Lit) → All (IsOver (length s)) w → number (s ++ t) w ≡ number s w

@@ -1,11 +1,11 @@
 -- The operators by the gates that compute them.
-use Rattle.std.proofs.Common.{◌≡◌, ℕ, ◌+◌, ◌-◌, ◌/◌, ◌%◌, ◌^◌, ◌<◌, Bool, true, false, not, ◌&&◌, ◌||◌, List, length, map, refl, ap, sym, ◌∙◌, subst, arith}
+use Rattle.std.proofs.Common.{◌≡◌, ℕ, ◌+◌, ◌-◌, ◌/◌, ◌%◌, ◌^◌, Bool, true, false, not, ◌&&◌, ◌||◌, List, map, refl, ap, sym, ◌∙◌, subst, arith}
 use Rattle.std.specs.Prelude.{ℤ, pos, negsuc, if◌then◌else◌, cond, nat_eq, nat_lt, nat_le, int_lt, int_le}
 use Rattle.std.proofs.lemmas.Bool.Decides.{nat_tests}
 use Rattle.dg_base.specs.declared.Lit.{Lit}
-use Rattle.dg_base.specs.Values.{truth_of, is_true, int_of}
+use Rattle.dg_base.specs.Values.{truth_of, is_true}
 use Rattle.cnf_problem.specs.Literals.{value, negated, IsOver}
-use Rattle.cnf_problem.specs.Formulas.{Formula, HasValue, Extends, IsGate}
+use Rattle.cnf_problem.specs.Formulas.{Formula, HasValue, IsGate}
 use Rattle.cnf_problem.proofs.Assignments.{over-negated}
 use Rattle.cnf_problem.proofs.GateLaws.{extends_steps}
 use Rattle.cnf_problem.proofs.LiteralLaws.{value-negated}

@@ -1,6 +1,6 @@
 -- Words read in two's complement, by their magnitudes.
 use Rattle.std.proofs.Common.{◌≡◌, ℕ, zero, suc, ◌+◌, ◌-◌, ◌*◌, ◌/◌, ◌%◌, ◌^◌, ◌<◌, ◌≤◌, Bool, true, false, not, List, length, take, set, get_or, refl, ap, sym, ◌∙◌, subst, arith}
-use Rattle.std.specs.Prelude.{ℤ, pos, negsuc, neg_ℤ, if◌then◌else◌, cond, nat_eq, nat_lt, int_lt, int_le, int_div, int_rem}
+use Rattle.std.specs.Prelude.{pos, negsuc, neg_ℤ, if◌then◌else◌, cond, nat_eq, nat_lt, int_lt}
 use Rattle.std.specs.Bool.{xor}
 use mathlib.Core.Bool.{xor as the_xor}
 use Rattle.std.proofs.lemmas.Bool.Decides.{nat_tests}

@@ -1,5 +1,5 @@
 -- Terms as words of literals.
-use Rattle.std.specs.Prelude.{◌≡◌, ℕ, ◌<◌, ◌≤◌, ◌+◌, ◌^◌, List, [], ◌++◌, Bool, Some, length, slice_get, slice_index_or, All}
+use Rattle.std.specs.Prelude.{◌≡◌, ℕ, ◌<◌, ◌≤◌, List, [], ◌++◌, Bool, Some, length, slice_get, slice_index_or, All}
 use Rattle.dg_base.specs.declared.Lit.{Lit}
 use Rattle.dg_base.specs.declared.operators.Op.{Op}
 use Rattle.dg_base.specs.Values.{operator}

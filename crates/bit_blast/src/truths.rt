@@ -102,7 +102,12 @@ pub(crate) fn either_word(gates: &mut Gates, a: &Word, b: &Word) -> Result<Word,
 }
 
 // The second word where the first isn't 0, and the third elsewhere.
-pub(crate) fn chosen_word(gates: &mut Gates, a: &Word, b: &Word, c: &Word) -> Result<Word, OutOfMemory>
+pub(crate) fn chosen_word(
+    gates: &mut Gates,
+    a: &Word,
+    b: &Word,
+    c: &Word,
+) -> Result<Word, OutOfMemory>
     requires first { IsWordOver gates.old.vars a.now }
     requires second { IsWordOver gates.old.vars b.now }
     requires third { IsWordOver gates.old.vars c.now }

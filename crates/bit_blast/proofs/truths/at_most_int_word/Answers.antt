@@ -1,4 +1,3 @@
-use Rattle.std.proofs.Common.{refl, ap, not}
 use Rattle.std.specs.Prelude.{int_lt, int_le}
 use Rattle.dg_base.specs.Values.{int_of}
 use Rattle.bit_gates.specs.Words.{number}

@@ -1,4 +1,3 @@
-use Rattle.std.proofs.Common.{refl, ap, not}
 use Rattle.std.specs.Prelude.{nat_lt, nat_le}
 use Rattle.bit_gates.specs.Words.{number}
 use Rattle.bit_blast.proofs.OperatorGates.{flagged_not, not_less}

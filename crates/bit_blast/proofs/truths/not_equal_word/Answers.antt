@@ -1,4 +1,4 @@
-use Rattle.std.proofs.Common.{refl, ap, not}
+use Rattle.std.proofs.Common.{refl, not}
 use Rattle.std.specs.Prelude.{nat_eq}
 use Rattle.bit_gates.specs.Words.{number}
 use Rattle.bit_blast.proofs.OperatorGates.{flagged_not}

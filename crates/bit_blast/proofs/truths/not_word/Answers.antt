@@ -1,4 +1,4 @@
-use Rattle.std.proofs.Common.{refl, ap, not}
+use Rattle.std.proofs.Common.{ap, not}
 use Rattle.std.specs.Prelude.{nat_lt}
 use Rattle.dg_base.specs.Values.{is_true}
 use Rattle.bit_gates.specs.Words.{number}
