@@ -1,4 +1,7 @@
 // Each operator on pairs of words.
+ghost use Rattle.std.specs.Prelude.{◌≡◌};
+ghost use Rattle.dg_base.specs.Values.{arity};
+
 use crate::valuation::Blasted;
 use bv_term::Terms;
 use dg_base::{Op, apply};
@@ -22,7 +25,9 @@ fn pairs(alloc: Global) -> Result<(Vec<u32>, Vec<u32>), Fail> {
 }
 
 // The operator of two inputs against its table, on each pair.
-fn check_pairs(rt: &impl Abort, alloc: Global, op: Op) -> Result<(), Fail> {
+fn check_pairs(rt: &impl Abort, alloc: Global, op: Op) -> Result<(), Fail>
+    requires { arity op ≡ 2 }
+{
     let mut terms = Terms::new(alloc)?;
     let x = terms.input()?;
     let y = terms.input()?;
@@ -38,7 +43,9 @@ fn check_pairs(rt: &impl Abort, alloc: Global, op: Op) -> Result<(), Fail> {
 }
 
 // The operator of one input against its table.
-fn check_words(rt: &impl Abort, alloc: Global, op: Op) -> Result<(), Fail> {
+fn check_words(rt: &impl Abort, alloc: Global, op: Op) -> Result<(), Fail>
+    requires { arity op ≡ 1 }
+{
     let mut terms = Terms::new(alloc)?;
     let x = terms.input()?;
     let result = terms.make(op, &[x])?;
@@ -51,72 +58,90 @@ fn check_words(rt: &impl Abort, alloc: Global, op: Op) -> Result<(), Fail> {
     Ok(())
 }
 
+// The choice between two inputs by a third against its table, on each pair, with one word for the
+// last input.
+fn check_choice(rt: &impl Abort, alloc: Global, other: u32) -> Result<(), Fail> {
+    let mut terms = Terms::new(alloc)?;
+    let x = terms.input()?;
+    let y = terms.input()?;
+    let z = terms.input()?;
+    let result = terms.make(Op::Choose, &[x, y, z])?;
+    let blasted = Blasted::new(alloc, &terms)?;
+    let (first, second) = pairs(alloc)?;
+    let third = Vec::from_elem(alloc, other, 49)?;
+    let inputs = [first.as_slice(), second.as_slice(), third.as_slice()];
+    let values = blasted.values(alloc, &inputs, result)?;
+    assert_eq!(rt; values.len(), 49);
+    for (value, (a, b)) in values.iter().zip(first.iter().zip(second.iter())) {
+        assert_eq!(rt;
+            *value,
+            apply(Op::Choose, &[*a, *b, other]),
+            "choice of {a} and {b}"
+        );
+    }
+    Ok(())
+}
+
+#[test]
+fn choices(rt: HostRuntime) -> Result<(), Fail> {
+    check_choice(&rt, rt.alloc(), 12345)
+}
+
 #[test]
 fn single_words(rt: HostRuntime) -> Result<(), Fail> {
-    for op in [Op::Negate, Op::UnaryPlus, Op::BitNot, Op::LogicNot] {
-        check_words(&rt, rt.alloc(), op)?;
-    }
+    check_words(&rt, rt.alloc(), Op::Negate)?;
+    check_words(&rt, rt.alloc(), Op::UnaryPlus)?;
+    check_words(&rt, rt.alloc(), Op::BitNot)?;
+    check_words(&rt, rt.alloc(), Op::LogicNot)?;
     Ok(())
 }
 
 #[test]
 fn sums(rt: HostRuntime) -> Result<(), Fail> {
-    for op in [Op::Plus, Op::Minus, Op::Times] {
-        check_pairs(&rt, rt.alloc(), op)?;
-    }
+    check_pairs(&rt, rt.alloc(), Op::Plus)?;
+    check_pairs(&rt, rt.alloc(), Op::Minus)?;
+    check_pairs(&rt, rt.alloc(), Op::Times)?;
     Ok(())
 }
 
 #[test]
 fn divisions(rt: HostRuntime) -> Result<(), Fail> {
-    for op in [
-        Op::DivideInt,
-        Op::DivideUint,
-        Op::RemainderInt,
-        Op::RemainderUint,
-    ] {
-        check_pairs(&rt, rt.alloc(), op)?;
-    }
+    check_pairs(&rt, rt.alloc(), Op::DivideInt)?;
+    check_pairs(&rt, rt.alloc(), Op::DivideUint)?;
+    check_pairs(&rt, rt.alloc(), Op::RemainderInt)?;
+    check_pairs(&rt, rt.alloc(), Op::RemainderUint)?;
     Ok(())
 }
 
 #[test]
 fn shifts(rt: HostRuntime) -> Result<(), Fail> {
-    for op in [Op::ShiftLeft, Op::ShiftRightInt, Op::ShiftRightUint] {
-        check_pairs(&rt, rt.alloc(), op)?;
-    }
+    check_pairs(&rt, rt.alloc(), Op::ShiftLeft)?;
+    check_pairs(&rt, rt.alloc(), Op::ShiftRightInt)?;
+    check_pairs(&rt, rt.alloc(), Op::ShiftRightUint)?;
     Ok(())
 }
 
 #[test]
 fn orders(rt: HostRuntime) -> Result<(), Fail> {
-    for op in [
-        Op::LessInt,
-        Op::LessUint,
-        Op::AtMostInt,
-        Op::AtMostUint,
-        Op::GreaterInt,
-        Op::GreaterUint,
-        Op::AtLeastInt,
-        Op::AtLeastUint,
-    ] {
-        check_pairs(&rt, rt.alloc(), op)?;
-    }
+    check_pairs(&rt, rt.alloc(), Op::LessInt)?;
+    check_pairs(&rt, rt.alloc(), Op::LessUint)?;
+    check_pairs(&rt, rt.alloc(), Op::AtMostInt)?;
+    check_pairs(&rt, rt.alloc(), Op::AtMostUint)?;
+    check_pairs(&rt, rt.alloc(), Op::GreaterInt)?;
+    check_pairs(&rt, rt.alloc(), Op::GreaterUint)?;
+    check_pairs(&rt, rt.alloc(), Op::AtLeastInt)?;
+    check_pairs(&rt, rt.alloc(), Op::AtLeastUint)?;
     Ok(())
 }
 
 #[test]
 fn bit_operators(rt: HostRuntime) -> Result<(), Fail> {
-    for op in [
-        Op::Equal,
-        Op::NotEqual,
-        Op::BitAnd,
-        Op::BitOr,
-        Op::BitXor,
-        Op::LogicAnd,
-        Op::LogicOr,
-    ] {
-        check_pairs(&rt, rt.alloc(), op)?;
-    }
+    check_pairs(&rt, rt.alloc(), Op::Equal)?;
+    check_pairs(&rt, rt.alloc(), Op::NotEqual)?;
+    check_pairs(&rt, rt.alloc(), Op::BitAnd)?;
+    check_pairs(&rt, rt.alloc(), Op::BitOr)?;
+    check_pairs(&rt, rt.alloc(), Op::BitXor)?;
+    check_pairs(&rt, rt.alloc(), Op::LogicAnd)?;
+    check_pairs(&rt, rt.alloc(), Op::LogicOr)?;
     Ok(())
 }
