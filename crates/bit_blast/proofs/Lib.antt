@@ -1,0 +1,4 @@
+pub mod Groups
+pub mod Growth
+pub mod OperatorGates
+pub mod TwosComplement

@@ -1,0 +1,10 @@
+pub mod Amounts
+pub mod Arith
+pub mod Choices
+pub mod Fresh
+pub mod LongDivision
+pub mod Moved
+pub mod Numbers
+pub mod Shifts
+pub mod Steps
+pub mod Sums
