@@ -52,6 +52,7 @@ fn put_copy(out: &mut Vec<u8>, i: u32) -> Result<(), OutOfMemory>
     put_second_thread(out, i)
 }
 
+/// Appends main's first lines, for so many threads.
 pub fn put_main(out: &mut Vec<u8>, threads: u32) -> Result<(), OutOfMemory>
     ensures { OnOk result (out.new.items ≡ out.old.items ++ text_of (main_lines threads)) }
 {
