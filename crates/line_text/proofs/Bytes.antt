@@ -97,7 +97,7 @@ one_cut b x y r s h k e =
 
 -- ---- no such byte
 
-has_byte : (b : ℕ) (x r : List ℕ) → lacks b (x ++ b ∷ r) ≡ true → ⊥
+pub has_byte : (b : ℕ) (x r : List ℕ) → lacks b (x ++ b ∷ r) ≡ true → ⊥
 has_byte b [] r e = false≢true (rw (eq-eqb b b refl) at e)
 has_byte b (c ∷ xs) r e = step (eqb c b) e (has_byte b xs r)
   where

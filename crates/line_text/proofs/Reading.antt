@@ -3,8 +3,8 @@ use Rattle.std.proofs.Common.{◌≡◌, ℕ, suc, ◌+◌, min, List, [], ◌�
 use Rattle.std.specs.List.{AllByRecursion}
 use Rattle.std.proofs.lemmas.Option.{same_Some}
 use Rattle.line_text.specs.Words.{Cut, cut, given}
-use Rattle.line_text.specs.Lines.{Begins, BeginsWhole, IsLine, IsLongestRun, NoProperPrefix, OneValue, Refuses, RefusesLines, text_of, told}
-use Rattle.line_text.proofs.Bytes.{cut_from, cut_none, one_cut}
+use Rattle.line_text.specs.Lines.{Begins, BeginsWhole, IsLine, NoProperPrefix, OneValue, Refuses, RefusesLines, text_of, told}
+use Rattle.line_text.proofs.Bytes.{cut_from, cut_none, lacking_cut, one_cut}
 use Rattle.line_text.proofs.Texts.{all_back, all_push, front_line, no_line, text_front}
 
 -- a machine over lines: where it starts, what a line makes of a state, and what was read where the last line was
@@ -225,3 +225,14 @@ pub read_end : {V S : Type 0} (m : Reader V S) (Spells : V → List ℕ → Type
 read_end m Spells text rest s n v reads h e nil =
     let all : text ≡ text_of h.lines = h.all ∙ (ap (λ t. text_of h.lines ++ t) nil ∙ append-nil (text_of h.lines)) in
     subst (Spells v) (sym all) (reads.spelled h.lines s v h.ran e)
+
+-- whole lines that were all read begin a spelling
+pub begins_whole : {V S : Type 0} (m : Reader V S) (Spells : V → List ℕ → Type 0) (text rest : List ℕ) (s : S) (n : ℕ) → Reads m Spells → Reached m text rest s n → cut 10 rest ≡ None → BeginsWhole Spells text
+begins_whole m Spells text rest s n reads h k = record {
+  lines = h.lines;
+  rest = rest;
+  all = h.all;
+  whole = h.whole;
+  last = lacking_cut 10 rest k;
+  begins = reads.begins h.lines s h.ran;
+}

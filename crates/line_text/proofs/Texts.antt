@@ -1,9 +1,10 @@
 -- Lines as bytes: which lines a text begins with, and that a text goes wrong at one line.
-use Rattle.std.proofs.Common.{◌≡◌, ℕ, suc, List, [], ◌∷◌, ◌++◌, length, None, refl, ap, sym, ◌∙◌, subst, append_assoc}
+use Rattle.std.proofs.Common.{◌≡◌, ℕ, suc, List, [], ◌∷◌, ◌++◌, length, true, None, refl, ap, sym, ◌∙◌, subst, append_assoc}
 use Rattle.std.specs.List.{AllByRecursion}
-use Rattle.line_text.specs.Words.{cut}
-use Rattle.line_text.specs.Lines.{Begins, IsLine, OneFault, text_of, told}
-use Rattle.line_text.proofs.Bytes.{cut_none, one_cut}
+use Rattle.std.proofs.lemmas.List.{append_cancel_left}
+use Rattle.line_text.specs.Words.{cut, lacks}
+use Rattle.line_text.specs.Lines.{Begins, BeginsWhole, IsLine, OneFault, RefusesLines, text_of, told}
+use Rattle.line_text.proofs.Bytes.{cut_none, has_byte, one_cut}
 
 -- ---- lists of lines as bytes
 
@@ -86,3 +87,19 @@ one_fault Spells text a b h k =
     let right = k.run in
     let same = same_lines (Begins Spells) (begins_front Spells) h.lines k.lines h.rest k.rest left.whole right.whole (sym left.all ∙ right.all) left.begins right.begins left.ends right.ends in
     h.number ∙ (ap (λ ls. told (suc (length ls))) same ∙ sym k.number)
+
+-- whole lines that begin a spelling are not refused
+pub not_refused : {V : Type 0} (Spells : V → List ℕ → Type 0) (text : List ℕ) (n : ℕ) → BeginsWhole Spells text → RefusesLines Spells text n → ⊥
+not_refused Spells text n h k =
+    let refused = k.refuses in
+    let run = refused.run in
+    let no_line_behind : (line more : List ℕ) → h.rest ≡ line ++ 10 ∷ more → ⊥ = λ line more is. has_byte 10 line more (subst (λ t. lacks 10 t ≡ true) is h.last) in
+    let same = same_lines (Begins Spells) (begins_front Spells) h.lines refused.lines h.rest refused.rest h.whole run.whole (sym h.all ∙ run.all) h.begins run.begins (λ line more plain is b. no_line_behind line more is) run.ends in
+    let both : text_of h.lines ++ h.rest ≡ text_of h.lines ++ refused.rest = sym h.all ∙ (run.all ∙ ap (λ ls. text_of ls ++ refused.rest) (sym same)) in
+    no_line_behind k.next k.more (append_cancel_left (text_of h.lines) h.rest refused.rest both ∙ k.goes_on)
+
+-- ---- texts that are written part by part
+
+-- one more part behind what was there with the parts before
+pub then_part : {x y z : List ℕ} (part : List ℕ) → x ≡ y → z ≡ x ++ part → z ≡ y ++ part
+then_part part e f = f ∙ ap (λ l. l ++ part) e
