@@ -1,0 +1,4 @@
+//! That there always is an answer.
+#![tactic(auto)]
+
+mod laws;
