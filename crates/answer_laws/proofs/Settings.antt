@@ -1,0 +1,118 @@
+-- What the settings of words are: a bound from 1 to 64, and as many files as the job has.
+use Rattle.std.proofs.Common.{◌≡◌, ℕ, ◌+◌, ◌-◌, ◌*◌, ◌≤◌, List, [], ◌∷◌, Bool, true, false, Option, Some, None, ◌⊎◌, inl, inr, refl, subst, drop, ⊎_elim, arith}
+use Rattle.std.specs.Prelude.{if◌then◌else◌, ◌&&◌, nat_le, bytes_eq, codes}
+use Rattle.std.proofs.lemmas.Bool.{and_parts, leb-true}
+use Rattle.std.proofs.lemmas.Option.{none-some, same_Some}
+use Rattle.axiom_model.specs.declared.MemoryModel.{MemoryModel}
+use Rattle.c_check.specs.WellFormed.{IsBound}
+use Rattle.dg_top.specs.declared.settings.Job.{Job}
+use Rattle.dg_top.specs.declared.settings.Job.TheVariants.{Replay, Verify}
+use Rattle.dg_top.specs.declared.settings.Options.{Options}
+use Rattle.dg_top.specs.declared.settings.Settings.{Settings}
+use Rattle.dg_top.specs.Settings.{IsWithin, Word, add_bound, add_full, add_model, add_option, are_files, bound_named, bound_or, bounded, file_count, files_of, given, is_digit, is_full, job_named, job_with, model_named, no_options, options_from, options_of, settings_of, settled}
+
+-- ---- values that are given
+
+given_back : {A B : Type 0} (o : Option A) (f : A → Option B) (y : B) → given o f ≡ Some y → (x : A) × (o ≡ Some x) × (f x ≡ Some y)
+given_back None f y e = absurd (none-some y e)
+given_back (Some x) f y e = (x, refl, e)
+
+then_back : {A : Type 0} (b : Bool) (o : Option A) (x : A) → (if b then o else None) ≡ Some x → (b ≡ true) × (o ≡ Some x)
+then_back true o x e = (refl, e)
+then_back false o x e = absurd (none-some x e)
+
+either_back : {A : Type 0} (b : Bool) (o p : Option A) (x : A) → (if b then o else p) ≡ Some x → (o ≡ Some x) ⊎ (p ≡ Some x)
+either_back true o p x e = inl e
+either_back false o p x e = inr e
+
+-- ---- options
+
+bounded_within : (n k : ℕ) → bounded n ≡ Some k → (1 ≤ k) × (k ≤ 64)
+bounded_within n k e =
+    let t = then_back (nat_le 1 n && nat_le n 64) (Some n) k e in
+    let both = and_parts (nat_le 1 n) (nat_le n 64) t.0 in
+    let same = same_Some n k t.1 in
+    let low = leb-true 1 n both.0 in
+    let high = leb-true n 64 both.1 in
+    (omega arith, omega arith)
+
+named_within : (w : Word) (k : ℕ) → bound_named w ≡ Some k → (1 ≤ k) × (k ≤ 64)
+named_within [] k e = absurd (none-some k e)
+named_within (b ∷ []) k e = bounded_within (b - 48) k (then_back (is_digit b) (bounded (b - 48)) k e).1
+named_within (b ∷ c ∷ []) k e =
+    bounded_within ((b - 48) * 10 + (c - 48)) k (then_back (nat_le 49 b && is_digit b && is_digit c) (bounded ((b - 48) * 10 + (c - 48))) k e).1
+named_within (b ∷ c ∷ d ∷ w) k e = absurd (none-some k e)
+
+-- an option that is added keeps the bound within its limits
+model_within : (given_before : Option MemoryModel) (o p : Options) (w : Word) → IsWithin o.bound → add_model given_before o w ≡ Some p → IsWithin p.bound
+model_within (Some m) o p w h e = absurd (none-some p e)
+model_within None o p w h e =
+    let g = given_back (model_named w) (λ m. Some (record o { model = Some m })) p e in
+    subst (λ (q : Options). IsWithin q.bound) (same_Some (record o { model = Some g.0 }) p g.2) h
+
+bound_within : (given_before : Option ℕ) (o p : Options) (w : Word) → add_bound given_before o w ≡ Some p → IsWithin p.bound
+bound_within (Some k) o p w e = absurd (none-some p e)
+bound_within None o p w e =
+    let g = given_back (bound_named w) (λ k. Some (record o { bound = Some k })) p e in
+    subst (λ (q : Options). IsWithin q.bound) (same_Some (record o { bound = Some g.0 }) p g.2) (named_within w g.0 g.1)
+
+full_within : (given_before : Bool) (o p : Options) → IsWithin o.bound → add_full given_before o ≡ Some p → IsWithin p.bound
+full_within true o p h e = absurd (none-some p e)
+full_within false o p h e = subst (λ (q : Options). IsWithin q.bound) (same_Some (record o { full = true }) p e) h
+
+option_within : (o p : Options) (name value : Word) → IsWithin o.bound → add_option o name value ≡ Some p → IsWithin p.bound
+option_within o p name value h e =
+    ⊎_elim (λ m. model_within o.model o p value h m)
+    (λ r. bound_within o.bound o p value (then_back (bytes_eq name (codes "--unroll")) (add_bound o.bound o value) p r).1)
+    (either_back (bytes_eq name (codes "--model")) (add_model o.model o value) (if bytes_eq name (codes "--unroll") then add_bound o.bound o value else None) p e)
+
+options_within : (name : Option Word) (o p : Options) (ws : List Word) → IsWithin o.bound → options_from name o ws ≡ Some p → IsWithin p.bound
+options_within None o p [] h e = subst (λ (q : Options). IsWithin q.bound) (same_Some o p e) h
+options_within (Some name) o p [] h e = absurd (none-some p e)
+options_within None o p (w ∷ ws) h e =
+    ⊎_elim
+    (λ f. let g = given_back (add_full o.full o) (λ q. options_from None q ws) p f in options_within None g.0 p ws (full_within o.full o g.0 h g.1) g.2)
+    (λ f. options_within (Some w) o p ws h f)
+    (either_back (is_full w) (given (add_full o.full o) (λ q. options_from None q ws)) (options_from (Some w) o ws) p e)
+options_within (Some name) o p (v ∷ ws) h e =
+    let g = given_back (add_option o name v) (λ q. options_from None q ws) p e in
+    options_within None g.0 p ws (option_within o g.0 name v h g.1) g.2
+
+bound_is : (k : Option ℕ) → IsWithin k → IsBound (bound_or k)
+bound_is None h = (omega arith, omega arith)
+bound_is (Some k) h = h
+
+-- ---- files
+
+-- the job's files, in the order in which they are read
+pub data HasFiles (s : Settings) : List Word → Type 0 where
+  one : (program : Word) → s.job ≡ Verify → HasFiles s (program ∷ [])
+  two : (program witness : Word) → s.job ≡ Replay → HasFiles s (program ∷ witness ∷ [])
+
+job_files : (j : Job) (o : Options) (program job : Word) (ws : List Word) → are_files j ws ≡ true → HasFiles (settled j o) (files_of (settled j o) (program ∷ job ∷ ws))
+job_files Verify o program job [] t = absurd cc
+job_files Verify o program job (a ∷ ws) t = one a refl
+job_files Replay o program job [] t = absurd cc
+job_files Replay o program job (a ∷ []) t = absurd cc
+job_files Replay o program job (a ∷ b ∷ ws) t = two a b refl
+
+-- ---- settings
+
+pub record IsSettled (words : List Word) (s : Settings) : Type 0 where
+  pub bound : IsBound s.bound
+  pub files : HasFiles s (files_of s words)
+
+settled_with : (j : Job) (program job : Word) (ws : List Word) (s : Settings) → job_with j ws ≡ Some s → IsSettled (program ∷ job ∷ ws) s
+settled_with j program job ws s e =
+    let t = then_back (are_files j ws) (given (options_of (drop (file_count j) ws)) (λ o. Some (settled j o))) s e in
+    let g = given_back (options_of (drop (file_count j) ws)) (λ o. Some (settled j o)) s t.1 in
+    let within = options_within None no_options g.0 (drop (file_count j) ws) tt g.1 in
+    subst (IsSettled (program ∷ job ∷ ws)) (same_Some (settled j g.0) s g.2)
+    (record { bound = bound_is g.0.bound within; files = job_files j g.0 program job ws t.0 })
+
+pub is_settled : (words : List Word) (s : Settings) → settings_of words ≡ Some s → IsSettled words s
+is_settled [] s e = absurd (none-some s e)
+is_settled (program ∷ []) s e = absurd (none-some s e)
+is_settled (program ∷ job ∷ ws) s e =
+    let g = given_back (job_named job) (λ j. job_with j ws) s e in
+    settled_with g.0 program job ws s g.2
