@@ -10,7 +10,6 @@ use Rattle.axiom_model.specs.WellMade.{Shape, WellMade}
 use Rattle.consistency.specs.declared.ThreadActions.{ThreadActions}
 use Rattle.consistency.specs.declared.Inconsistent.{Inconsistent}
 use Rattle.consistency.specs.declared.Inconsistent.TheVariants.{LocalCycle, GlobalCycle, BlockCycle, OutOfMemory}
-use Rattle.consistency.specs.declared.numbering.Node.{Node}
 use Rattle.consistency.specs.declared.relations.Condition.{Condition}
 use Rattle.consistency.specs.declared.relations.Condition.TheVariants.{Local, Global}
 use Rattle.consistency.specs.Blocks.{block_edges, cycle_ends}
@@ -29,24 +28,21 @@ module _ (threads : List ThreadActions) (rf : List RfPair) (co : List (List Even
   abbrev seen : Execution
   seen = execution_seen threads rf co
 
-  abbrev nodes : List Node
-  nodes = nodes_of 0 threads
-
   abbrev edges : Condition → List (ℕ × ℕ)
-  edges k = edges_of k nodes rf co
+  edges k = edges_of k (nodes_of 0 threads) rf co
 
-  lists : (k : Condition) → Lists nodes (Edge k seen) (edges k)
-  lists k = lists_of threads rf co made nodes refl k (edges k) refl
+  lists : (k : Condition) → Lists (nodes_of 0 threads) (Edge k seen) (edges k)
+  lists k = lists_of threads rf co made (nodes_of 0 threads) refl k (edges k) refl
 
   no_events : (k : Condition) → ((l : List Event) → IsEventCycle seen (Edge k seen) l → ⊥) → NoCycle (Edge k seen)
   no_events k none =
-      no_cycle_from nodes (Edge k seen) (edges k) (lists k).complete
-      (no_simple_no_cycle (edges k) (λ l s. none (map (event_at nodes) l) (event_cycle_from seen nodes (numbering threads rf co made nodes refl) (Edge k seen) (edges k) (lists k) l s)))
+      no_cycle_from (nodes_of 0 threads) (Edge k seen) (edges k) (lists k).complete
+      (no_simple_no_cycle (edges k) (λ l s. none (map (event_at (nodes_of 0 threads)) l) (event_cycle_from seen (nodes_of 0 threads) (numbering threads rf co made (nodes_of 0 threads) refl) (Edge k seen) (edges k) (lists k) l s)))
 
   no_blocks : (m : MemoryModel) → ((l : List Event) → IsBlockCycle m seen l → ⊥) → NoCycle (Leaves m seen)
   no_blocks m none =
-      no_block_cycle m seen nodes (numbering threads rf co made nodes refl) (edges (Global m)) (lists (Global m))
-      (no_simple_no_cycle (block_edges nodes (edges (Global m))) (λ l s. none (cycle_ends nodes (edges (Global m)) l) (block_cycle_from m seen nodes (numbering threads rf co made nodes refl) (edges (Global m)) (lists (Global m)) l s)))
+      no_block_cycle m seen (nodes_of 0 threads) (numbering threads rf co made (nodes_of 0 threads) refl) (edges (Global m)) (lists (Global m))
+      (no_simple_no_cycle (block_edges (nodes_of 0 threads) (edges (Global m))) (λ l s. none (cycle_ends (nodes_of 0 threads) (edges (Global m)) l) (block_cycle_from m seen (nodes_of 0 threads) (numbering threads rf co made (nodes_of 0 threads) refl) (edges (Global m)) (lists (Global m)) l s)))
 
   pub no_evidence : (m : MemoryModel) → ((e : Inconsistent) → e ≢ OutOfMemory → IsEvidence m seen e → ⊥) → Consistent m seen
   no_evidence m none =

@@ -74,14 +74,14 @@ behind_some : (a : List Token) (t : Token) (b : List Token) → 1 ≤ length (a 
 behind_some a t b = let long = length-append a (t ∷ b) in omega arith
 
 declaration_tokens : (n : ℕ) (a : List Token) (d : Decl) → ReadsDeclaration n a d → 1 ≤ length a
-declaration_tokens n _ _ (declaration {a = a} {b = b} q k ds) =
+declaration_tokens n _ _ (declaration q {a = a} {b = b} k ds) =
     let long = length-append a (b ++ mark (codes ";") q ∷ []) in
     let more = behind_some b (mark (codes ";") q) [] in
     omega arith
 
 plain_tokens : (n : ℕ) (a : List Token) (x : Item) → ReadsPlain n a x → 1 ≤ length a
-plain_tokens _ _ _ (function {p = p} {a = a} {name = name} q r t u k c ps body) = behind_some a (word name p) _
-plain_tokens _ _ _ (prototype {p = p} {a = a} {name = name} q r t k c s) = behind_some a (word name p) _
+plain_tokens _ _ _ (function {p = p} q r t u {a = a} {name = name} k c ps body) = behind_some a (word name p) _
+plain_tokens _ _ _ (prototype {p = p} q r t {a = a} {name = name} k c s) = behind_some a (word name p) _
 plain_tokens n a _ (shared {d = d} h) = declaration_tokens n a d h
 
 item_tokens : (n : ℕ) (a : List Token) (x : Item) → ReadsItem n a x → 1 ≤ length a

@@ -1,5 +1,5 @@
 pub mod Options
 pub mod SimpleCycles
 pub mod Evident
-pub mod Unbroken
 pub mod Spelled
+pub mod Functions
