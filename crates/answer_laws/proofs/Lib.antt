@@ -1,5 +1,11 @@
 pub mod Options
-pub mod SimpleCycles
+pub mod ShortestCycles
 pub mod Evident
 pub mod Spelled
+pub mod Unbroken
+pub mod Replays
 pub mod Functions
+pub mod Forms
+pub mod Verdicts
+pub mod Settings
+pub mod Answered

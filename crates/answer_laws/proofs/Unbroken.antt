@@ -12,19 +12,17 @@ use Rattle.axiom_model.specs.declared.Candidate.{Candidate}
 use Rattle.axiom_model.specs.Execution.{Execution}
 use Rattle.axiom_model.specs.Failing.{FailsFirst, HasWords, Run, SomeFails}
 use Rattle.axiom_model.specs.Models.{Consistent}
-use Rattle.axiom_model.specs.WellMade.{Shape, WellMade}
 use Rattle.c_check.specs.declared.checked.Checked.{Checked}
 use Rattle.c_check.specs.WellFormed.{IsChecked}
 use Rattle.consistency.specs.declared.Inconsistent.{Inconsistent}
 use Rattle.consistency.specs.declared.Inconsistent.TheVariants as inconsistent
 use Rattle.consistency.specs.declared.ThreadActions.{ThreadActions}
 use Rattle.consistency.specs.Evidence.{IsEvidence}
-use Rattle.consistency.specs.Seen.{execution_seen, thread_seen}
+use Rattle.consistency.specs.Seen.{thread_seen}
 use Rattle.run_model.specs.Threads.{ProgramFails}
 use Rattle.exec_check.specs.declared.Failing.{Failing}
 use Rattle.exec_check.specs.declared.Reject.{Reject}
 use Rattle.exec_check.specs.declared.Reject.TheVariants.{MainMissing, ThreadTwice, UnknownThread, ScriptShort, ScriptLong, BadRun, NoCreate, NoThread, BadSource, BadOrder, BadJoin, LocalCycle, GlobalCycle, BlockCycle, NotFailing, OutOfMemory}
-use Rattle.exec_check.specs.declared.event_actions.EventAction.{EventAction}
 use Rattle.exec_check.specs.ActionTests.{bad_order_from, child_of, has_child, has_source, is_created, joins_ended, least_unread}
 use Rattle.exec_check.specs.Broken.{IsFirstBroken}
 use Rattle.exec_check.specs.Conditions.{HasChildren, HasCreates, HasMain, HasOrders, HasRuns, HasSources, HasThreads, IsAboveAll, IsExecution, IsKnown, RunsWell}
@@ -37,7 +35,7 @@ use Rattle.exec_check.proofs.Listed.{or_else-some}
 use Rattle.exec_check.proofs.Present.{known_none, known_some, main_decides, rising_none, rising_some}
 use Rattle.exec_check.proofs.Ran.{none_fails, none_wrong, wrong_is_broken}
 use Rattle.exec_check.proofs.Stages as stages
-use Rattle.exec_check.proofs.Whole.{first_to_fail, program_fails, seen_is, well_made}
+use Rattle.exec_check.proofs.Whole.{first_to_fail, program_fails, well_made}
 use Rattle.answer_laws.proofs.Options.{none_else, some_else}
 use Rattle.answer_laws.proofs.Evident.{no_evidence}
 
@@ -75,9 +73,6 @@ module _ (p : Checked) (m : MemoryModel) (c : Candidate) (checked : IsChecked p)
   abbrev done : List ThreadActions
   done = map (done_by p) parts
 
-  abbrev acts : List EventAction
-  acts = event_actions done
-
   has_main : HasMain (shape p) parts
   has_main =
       ⊎_elim (λ t. (main_decides (shape p) parts).0 t)
@@ -104,39 +99,39 @@ module _ (p : Checked) (m : MemoryModel) (c : Candidate) (checked : IsChecked p)
   runs : HasRuns p parts
   runs = record { threads = threads; words = words; runs = run_well }
 
-  listed : ListsActions (acting p parts) acts
-  listed = stages.listed_alone p parts done acts runs (done_seen p parts) refl
+  listed : ListsActions (acting p parts) (event_actions done)
+  listed = stages.listed_alone p parts done (event_actions done) runs (done_seen p parts) refl
 
-  listed_in : ListsActions (execution_in p c) acts
-  listed_in = stages.listed_in p c acts listed
+  listed_in : ListsActions (execution_in p c) (event_actions done)
+  listed_in = stages.listed_in p c (event_actions done) listed
 
   creates : HasCreates p parts
   creates =
-      stages.creates_hold p parts acts runs listed
-      (none_else (first_not (is_created acts) handle_of parts) (λ n e. unbroken (NoCreate n) (λ s. cc) (runs, stages.creates_break p parts acts n listed e)))
+      stages.creates_hold p parts (event_actions done) runs listed
+      (none_else (first_not (is_created (event_actions done)) handle_of parts) (λ n e. unbroken (NoCreate n) (λ s. cc) (runs, stages.creates_break p parts (event_actions done) n listed e)))
 
   children : HasChildren p parts
   children =
-      stages.children_hold p parts acts creates listed
-      (none_else (first_not (has_child parts) child_of acts) (λ n e. unbroken (NoThread n) (λ s. cc) (creates, stages.children_break p parts acts n listed e)))
+      stages.children_hold p parts (event_actions done) creates listed
+      (none_else (first_not (has_child parts) child_of (event_actions done)) (λ n e. unbroken (NoThread n) (λ s. cc) (creates, stages.children_break p parts (event_actions done) n listed e)))
 
   sources : HasSources p c
   sources =
-      stages.sources_hold p c acts checked listed_in children
-      (none_else (least_unread acts (first_not (has_source p.cells acts c.rf) event_of acts) c.rf)
-      (λ f e. unbroken (BadSource f) (λ s. cc) (children, stages.sources_break p c acts f checked listed_in e)))
+      stages.sources_hold p c (event_actions done) checked listed_in children
+      (none_else (least_unread (event_actions done) (first_not (has_source p.cells (event_actions done) c.rf) event_of (event_actions done)) c.rf)
+      (λ f e. unbroken (BadSource f) (λ s. cc) (children, stages.sources_break p c (event_actions done) f checked listed_in e)))
 
   orders : HasOrders p c
   orders =
-      stages.orders_hold p c acts (length p.cells) checked refl listed_in sources
-      (none_else (bad_order_from acts (length p.cells) 0 c.co)
-      (λ n e. unbroken (BadOrder n) (λ s. cc) (sources, stages.orders_break p c acts (length p.cells) n checked refl listed_in e)))
+      stages.orders_hold p c (event_actions done) (length p.cells) checked refl listed_in sources
+      (none_else (bad_order_from (event_actions done) (length p.cells) 0 c.co)
+      (λ n e. unbroken (BadOrder n) (λ s. cc) (sources, stages.orders_break p c (event_actions done) (length p.cells) n checked refl listed_in e)))
 
   execution : IsExecution p c
   execution =
-      let did = stages.acts_in p c done acts (done_seen p parts) listed in
-      stages.joins_hold p c done acts orders did
-      (none_else (first_not (joins_ended done) event_of acts) (λ f e. unbroken (BadJoin f) (λ s. cc) (orders, stages.joins_break p c done acts f did e)))
+      let did = stages.acts_in p c done (event_actions done) (done_seen p parts) listed in
+      stages.joins_hold p c done (event_actions done) orders did
+      (none_else (first_not (joins_ended done) event_of (event_actions done)) (λ f e. unbroken (BadJoin f) (λ s. cc) (orders, stages.joins_break p c done (event_actions done) f did e)))
 
   -- ---- the model, and that some thread fails
 
@@ -148,9 +143,7 @@ module _ (p : Checked) (m : MemoryModel) (c : Candidate) (checked : IsChecked p)
 
   consistent : Consistent m (execution_in p c)
   consistent =
-      let same : execution_seen done c.rf c.co ≡ execution_in p c = seen_is p c parts done refl (done_seen p parts) in
-      let made = subst (WellMade (shape p)) (sym same) (well_made p c execution) in
-      subst (Consistent m) same (no_evidence done c.rf c.co (shape p, made) m (λ e n v. unforbidden e n (subst (λ x. IsEvidence m x e) same v)))
+      no_evidence (shape p) (execution_in p c) (well_made p c execution) m unforbidden
 
   pub unbroken_fails : ProgramFails p m c
   unbroken_fails =

@@ -1,8 +1,47 @@
--- That there always is an answer, and what it rests on.
-use Rattle.std.specs.Prelude.{ℕ, List}
+-- That there always is an answer, and what it rests on. Nothing is excluded in the middle: of two cases that cannot both fail
+-- it is said that both fail never.
+use Rattle.std.specs.Prelude.{◌≢◌, ℕ, Bool, List}
+use Rattle.dg_base.specs.declared.outside.FileEntry.{FileEntry}
 use Rattle.axiom_model.specs.declared.Candidate.{Candidate}
+use Rattle.axiom_model.specs.declared.MemoryModel.{MemoryModel}
+use Rattle.axiom_model.specs.Execution.{Execution}
+use Rattle.axiom_model.specs.Failing.{HasWords}
+use Rattle.axiom_model.specs.Models.{Consistent}
+use Rattle.axiom_model.specs.WellMade.{Shape, WellMade}
+use Rattle.c_check.specs.declared.checked.Checked.{Checked}
+use Rattle.c_check.specs.WellFormed.{IsChecked}
+use Rattle.consistency.specs.declared.Inconsistent.{Inconsistent}
+use Rattle.consistency.specs.declared.Inconsistent.TheVariants as inconsistent
+use Rattle.consistency.specs.Evidence.{IsEvidence}
+use Rattle.run_model.specs.Threads.{ProgramFails}
+use Rattle.exec_check.specs.declared.Reject.{Reject}
+use Rattle.exec_check.specs.declared.Reject.TheVariants as reject
+use Rattle.exec_check.specs.Broken.{IsFirstBroken}
 use Rattle.witness_text.specs.Spelling.{Refuses, Spells}
+use Rattle.c_program.specs.Accepting.{IsAccepted}
+use Rattle.dg_top.specs.Answers.{Allowed, Answer, IsReplay, IsVerdict}
+use Rattle.dg_top.specs.Settings.{Word}
 
 -- each text spells a candidate or is refused at a line
 abbrev pub SpellsOrIsRefused : Type 0
 SpellsOrIsRefused = (functions cells : List (List ℕ)) (text : List ℕ) → ((c : Candidate) → Spells functions cells c text → ⊥) → ((line : ℕ) → Refuses functions cells text line → ⊥) → ⊥
+
+-- a model allows an execution against which there is no evidence
+abbrev pub UnopposedIsConsistent : Type 0
+UnopposedIsConsistent = (s : Shape) (x : Execution) (m : MemoryModel) → WellMade s x → ((e : Inconsistent) → e ≢ inconsistent.OutOfMemory → IsEvidence m x e → ⊥) → Consistent m x
+
+-- a candidate of words that breaks no condition first is a failing execution
+abbrev pub UnbrokenFails : Type 0
+UnbrokenFails = (p : Checked) (m : MemoryModel) (c : Candidate) → IsChecked p → HasWords c → ((e : Reject) → e ≢ reject.OutOfMemory → IsFirstBroken p m c e → ⊥) → ProgramFails p m c
+
+-- of each text given as a witness for a checked program something is answered
+abbrev pub SomeReplayIsAllowed : Type 0
+SomeReplayIsAllowed = (m : MemoryModel) (p : Checked) (witness : List ℕ) → IsChecked p → ((a : Answer) → IsReplay m p witness a → ⊥) → ⊥
+
+-- of each accepted text there is a verdict
+abbrev pub SomeVerdictIsAllowed : Type 0
+SomeVerdictIsAllowed = (bound : ℕ) (full : Bool) (text : List ℕ) (m : MemoryModel) (p : Checked) → IsAccepted bound full text p → ((a : Answer) → IsVerdict m p a → ⊥) → ⊥
+
+-- some answer is always allowed
+abbrev pub SomeAnswerIsAllowed : Type 0
+SomeAnswerIsAllowed = (words : List Word) (files : List FileEntry) → ((a : Answer) → Allowed words files a → ⊥) → ⊥

@@ -1,1 +1,40 @@
 //! Laws of answers.
+
+ghost use Rattle.answer_laws.specs.Laws.{SomeAnswerIsAllowed, SomeReplayIsAllowed, SomeVerdictIsAllowed, SpellsOrIsRefused, UnbrokenFails, UnopposedIsConsistent};
+
+use c_program::not_neither;
+
+/// Each text spells a candidate or is refused at a line: a longest run of its whole lines with which some spelling begins is
+/// always there.
+pub fn texts_are_spelled_or_refused()
+    ensures { SpellsOrIsRefused }
+{}
+
+/// A model allows each well made execution against which there is no evidence: where a condition is broken there is a cycle
+/// that repeats no event or block and begins at its least event.
+pub fn unopposed_executions_are_consistent()
+    ensures { UnopposedIsConsistent }
+{}
+
+/// A candidate of words that breaks no condition first is a failing execution: the conditions and their first places
+/// leave no candidate out.
+pub fn unbroken_candidates_fail()
+    ensures { UnbrokenFails }
+{}
+
+/// Of each text that is given as a witness for a checked program, under each model, something is answered.
+pub fn some_replay_is_allowed()
+    ensures { SomeReplayIsAllowed }
+{}
+
+/// Of each accepted text, under each model, there is a verdict.
+pub fn some_verdict_is_allowed()
+    ensures { SomeVerdictIsAllowed }
+{}
+
+/// For all words and files some answer is allowed.
+pub fn some_answer_is_allowed()
+    ensures { SomeAnswerIsAllowed }
+{
+    not_neither();
+}
