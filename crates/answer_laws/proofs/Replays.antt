@@ -13,7 +13,6 @@ use Rattle.c_check.proofs.PlainNames.{all_map}
 use Rattle.run_model.specs.Threads.{ProgramFails}
 use Rattle.witness_text.specs.Spelling.{HasThreadNumbers, IsNumber, Spells}
 use Rattle.dg_top.specs.Answers.{Answer, BadWitness, Failing, IsReplay, Rejected, bad_witness, failing, rejected}
-use Rattle.dg_top.proofs.Verdicts.{first_of}
 use Rattle.answer_laws.specs.Laws.{SomeReplayIsAllowed}
 use Rattle.answer_laws.proofs.Spelled.{spells_or_is_refused}
 use Rattle.answer_laws.proofs.Unbroken.{failing_is_told, unbroken_fails}
@@ -27,7 +26,7 @@ module _ (m : MemoryModel) (p : Checked) (witness : List ℕ) (checked : IsCheck
   not_failing c s x =
       let told = failing_is_told p m c x in
       let f = told.0 in
-      none (Failing f.handle f.place f.bound) (failing c f.handle f.place f.bound s x (first_of p m c x f.handle f.place f.bound told.1))
+      none (Failing f.handle f.place f.bound) (failing c f.handle f.place f.bound s x told.1)
 
   not_spelled : (c : Candidate) → Spells p.functions (cell_names p.cells) c witness → ⊥
   not_spelled c s = not_failing c s (unbroken_fails p m c checked (words_of c.threads s.numbers.threads) (λ e n b. none (Rejected p e) (rejected c e s b n)))

@@ -152,10 +152,13 @@ module _ (p : Checked) (m : MemoryModel) (c : Candidate) (checked : IsChecked p)
 
 -- ---- the thread that is told
 
-pub failing_is_told : (p : Checked) (m : MemoryModel) (c : Candidate) → ProgramFails p m c → (f : Failing) × FailsFirst c (runs_of p c.threads) f.handle f.place f.bound
+pub failing_is_told : (p : Checked) (m : MemoryModel) (c : Candidate) (x : ProgramFails p m c) → (f : Failing) × FailsFirst c x.allowed.threads f.handle f.place f.bound
 failing_is_told p m c x =
-    let told = some_else (told_failing p c.threads) (λ e. none e (subst SomeFails (runs_are p c.threads x.allowed.threads x.allowed.whole) x.fails)) in
-    (told.0, first_to_fail p c told.0 told.1)
+    let told = some_else (told_failing p c.threads) (λ e. none e (subst SomeFails same x.fails)) in
+    (told.0, subst (λ (rs : List Run). FailsFirst c rs told.0.handle told.0.place told.0.bound) (sym same) (first_to_fail p c told.0 told.1))
   where
+    same : x.allowed.threads ≡ runs_of p c.threads
+    same = runs_are p c.threads x.allowed.threads x.allowed.whole
+
     none : told_failing p c.threads ≡ None → SomeFails (runs_of p c.threads) → ⊥
     none e s = none-some s.2 (sym (none_fails p c.threads e s.0 s.1 s.3) ∙ s.4)
