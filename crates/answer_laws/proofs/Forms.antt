@@ -5,14 +5,13 @@ use Rattle.std.specs.List.{AllByRecursion}
 use Rattle.std.proofs.lemmas.Bool.{cases_order}
 use Rattle.std.proofs.lemmas.List.Elements.{recursion_from_All}
 use Rattle.std.proofs.lemmas.Option.{slice_get_past, slice_get_within}
-use Rattle.dg_base.specs.declared.Place.{Place}
 use Rattle.axiom_model.specs.declared.Candidate.{Candidate}
 use Rattle.axiom_model.specs.declared.Event.{Event}
 use Rattle.axiom_model.specs.declared.Event.TheVariants.{At, Initial}
 use Rattle.axiom_model.specs.declared.MemoryModel.TheVariants.{Sc}
 use Rattle.axiom_model.specs.declared.RfPair.{RfPair}
 use Rattle.axiom_model.specs.declared.ThreadPart.{ThreadPart}
-use Rattle.axiom_model.specs.Failing.{FailsFirst, HasWords}
+use Rattle.axiom_model.specs.Failing.{HasWords}
 use Rattle.c_check.specs.declared.checked.Checked.{Checked}
 use Rattle.c_check.specs.PlainNames.{cell_names}
 use Rattle.c_check.specs.WellFormed.{IsChecked}
@@ -21,16 +20,15 @@ use Rattle.first_form.specs.declared.form.Form.{Form}
 use Rattle.first_form.specs.Form.{IsProgram}
 use Rattle.first_form.specs.Whole.{form_of}
 use Rattle.first_form.proofs.Programs.{form_is_program}
-use Rattle.run_model.specs.Threads.{ProgramFails}
-use Rattle.witness_text.specs.Spelling.{HasEventNumbers, HasNumbers, HasPairNumbers, HasThreadNumbers, IsNumber, Spells}
+use Rattle.witness_text.specs.Spelling.{HasEventNumbers, HasNumbers, HasPairNumbers, HasThreadNumbers, IsNumber}
 use Rattle.witness_text.specs.Witness.{witness_text}
-use Rattle.form_verdict.specs.declared.verdict.FormFailure.{FormFailure}
 use Rattle.form_verdict.specs.Final.{Final, created_writes, events_from, execution_with, initial, is_by, main_part, other_writes, own_writes, parts_from, reads_from, write_events, write_order, writes_of, written}
 use Rattle.form_verdict.specs.Search.{AllAgree, IsFailure, disagrees}
 use Rattle.form_verdict.specs.Verdict.{IsFormFailure}
 use Rattle.form_verdict.proofs.FailsExecution.{few_writes}
 use Rattle.form_verdict.proofs.Searching.{all_assert, first_found}
 use Rattle.form_verdict.proofs.Shown.{safe, shows}
+use Rattle.answer_laws.specs.Spelled.{IsSpelledFailure, SafeUnlessSpelled}
 use Rattle.answer_laws.proofs.Evident.{all_at}
 use Rattle.answer_laws.proofs.Options.{none_else}
 
@@ -114,32 +112,21 @@ module _ (p : Checked) (f : Form) (checked : IsChecked p) (form : form_of p.prog
   program : IsProgram f
   program = form_is_program p.program f form
 
-  -- a failing execution with its text, and the thread that fails first
-  pub record Spelled : Type 0 where
-    pub candidate : Candidate
-    pub witness : List ℕ
-    pub place : Place
-    pub spells : Spells p.functions (cell_names p.cells) candidate witness
-    pub fails : ProgramFails p Sc candidate
-    pub first : FailsFirst candidate fails.allowed.threads 0 place false
-
-  spelled : (e : Event) (v k : ℕ) → IsFailure f (record { event = e; value = v; check = k }) → Spelled
+  spelled : (e : Event) (v k : ℕ) → IsFailure f (record { event = e; value = v; check = k }) → IsSpelledFailure p Sc
   spelled e v k x =
       let c : Candidate = execution_with f e v k in
       let shown : IsFormFailure p (record { candidate = c; handle = 0; place = x.check.place }) = shows f program (record { event = e; value = v; check = k }) x c x.check.place refl refl p checked form in
       record {
         candidate = c;
-        witness = witness_text p.functions (cell_names p.cells) c;
-        place = x.check.place;
+        text = witness_text p.functions (cell_names p.cells) c;
+        fails = shown.fails;
         spells = record {
           numbers = numbers f program (length p.functions) e v k few (final_numbered f program e v x.final) (slice_get_within f.checks k x.check x.is_check) shown.fails.allowed.words shown.spellable.known;
           spellable = shown.spellable;
           spelled = refl;
         };
-        fails = shown.fails;
-        first = shown.first;
       }
 
   -- where no failure has a text, no execution fails
-  pub safe_unless_spelled : (Spelled → ⊥) → (c : Candidate) → ProgramFails p Sc c → ⊥
-  safe_unless_spelled none = safe f program (λ e v final. all_assert f v (none_else (position (disagrees v) f.checks) (λ k found. none (spelled e v k (first_found f e v k (record { event = e; value = v; check = k }) final found refl))))) p checked form
+  pub form_is_spelled : SafeUnlessSpelled p Sc
+  form_is_spelled none = safe f program (λ e v final. all_assert f v (none_else (position (disagrees v) f.checks) (λ k found. none (spelled e v k (first_found f e v k (record { event = e; value = v; check = k }) final found refl))))) p checked form

@@ -19,7 +19,7 @@ use Rattle.answer_laws.proofs.Unbroken.{failing_is_told, unbroken_fails}
 
 -- the numbers of a spelling are words
 words_of : (ts : List ThreadPart) → AllByRecursion HasThreadNumbers ts → All (λ (t : ThreadPart). All (λ v. v < 2 ^ 32) t.script) ts
-words_of ts h = All_from_recursion (λ (t : ThreadPart). All (λ v. v < 2 ^ 32) t.script) ts (all_map HasThreadNumbers (λ t. All (λ v. v < 2 ^ 32) t.script) ts (λ t n. All_from_recursion IsNumber t.script n.script) h)
+words_of ts h = All-from_recursion (λ (t : ThreadPart). All (λ v. v < 2 ^ 32) t.script) ts (all_map HasThreadNumbers (λ t. All (λ v. v < 2 ^ 32) t.script) ts (λ t n. All-from_recursion IsNumber t.script n.script) h)
 
 module _ (m : MemoryModel) (p : Checked) (witness : List ℕ) (checked : IsChecked p) (none : (a : Answer) → IsReplay m p witness a → ⊥) where
   not_failing : (c : Candidate) → Spells p.functions (cell_names p.cells) c witness → ProgramFails p m c → ⊥

@@ -26,3 +26,7 @@ pub record IsSpelledFailure (p : Checked) (m : MemoryModel) : Type 0 where
 abbrev pub FailingIsSpelled : Type 0
 FailingIsSpelled =
     (p : Checked) (m : MemoryModel) (c : Candidate) → IsChecked p → length p.functions ≤ 2 ^ 32 → (x : ProgramFails p m c) → HasShortRuns c x.allowed.threads → IsSpelledFailure p m
+
+-- no execution fails, unless one fails that has a text
+abbrev pub SafeUnlessSpelled : Checked → MemoryModel → Type 0
+SafeUnlessSpelled p m = (IsSpelledFailure p m → ⊥) → (c : Candidate) → ProgramFails p m c → ⊥
