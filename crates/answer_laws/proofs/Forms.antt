@@ -1,6 +1,6 @@
 -- A failure of a program of the first form has a text.
 use Rattle.std.proofs.Common.{◌≡◌, ℕ, zero, suc, ◌+◌, ◌<◌, ◌≤◌, ◌^◌, List, [], ◌∷◌, ◌++◌, Bool, true, false, Some, None, length, refl, sym, ap, ◌∙◌, ⊎_elim, position, arith, length-append}
-use Rattle.std.specs.Prelude.{slice_get, if◌then◌else◌}
+use Rattle.std.specs.Prelude.{slice_get, if◌then◌else◌, All}
 use Rattle.std.specs.List.{AllByRecursion}
 use Rattle.std.proofs.lemmas.Bool.{cases_order}
 use Rattle.std.proofs.lemmas.List.Elements.{recursion_from_All}
@@ -98,7 +98,7 @@ module _ (f : Form) (program : IsProgram f) where
         handle = omega arith;
         function = omega (arith, known.0);
         arg = omega arith;
-        script = recursion_from_All IsNumber (main_part f v k).script (all_at _ (execution_with f e v k).threads 0 (main_part f v k) words refl);
+        script = recursion_from_All IsNumber (main_part f v k).script (all_at (λ (t : ThreadPart). All (λ w. w < 2 ^ 32) t.script) (execution_with f e v k).threads 0 (main_part f v k) words refl);
       },
       parts_numbered n 1 f.created few (let low = program.few_created in omega arith) known.1,
     );
