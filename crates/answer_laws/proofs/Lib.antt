@@ -1,11 +1,12 @@
 pub mod Options
 pub mod ShortestCycles
 pub mod Evident
-pub mod Spelled
 pub mod Unbroken
+pub mod Spelled
 pub mod Replays
-pub mod Functions
-pub mod Forms
-pub mod Verdicts
+pub mod Sorting
+pub mod Written
 pub mod Settings
+pub mod Functions
+pub mod Verdicts
 pub mod Answered

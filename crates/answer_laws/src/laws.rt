@@ -1,8 +1,7 @@
 //! Laws of answers.
 
-ghost use Rattle.answer_laws.specs.Laws.{SomeAnswerIsAllowed, SomeReplayIsAllowed, SomeVerdictIsAllowed, SpellsOrIsRefused, UnbrokenFails, UnopposedIsConsistent};
-
-use c_program::not_neither;
+ghost use Rattle.answer_laws.specs.Laws.{SomeReplayIsAllowed, SpellsOrIsRefused, UnbrokenFails, UnopposedIsConsistent};
+ghost use Rattle.answer_laws.specs.Spelled.{FailingIsSpelled};
 
 /// Each text spells a candidate or is refused at a line: a longest run of its whole lines with which some spelling begins is
 /// always there.
@@ -16,25 +15,18 @@ pub fn unopposed_executions_are_consistent()
     ensures { UnopposedIsConsistent }
 {}
 
-/// A candidate of words that breaks no condition first is a failing execution: the conditions and their first places
-/// leave no candidate out.
+/// A candidate of words that breaks no condition first is a failing execution: the conditions and their first places leave no
+/// candidate out.
 pub fn unbroken_candidates_fail()
     ensures { UnbrokenFails }
+{}
+
+/// Where an execution fails whose threads have words as arguments and runs of at most 2^32 actions, one fails that has a text.
+pub fn failing_is_spelled()
+    ensures { FailingIsSpelled }
 {}
 
 /// Of each text that is given as a witness for a checked program, under each model, something is answered.
 pub fn some_replay_is_allowed()
     ensures { SomeReplayIsAllowed }
 {}
-
-/// Of each accepted text, under each model, there is a verdict.
-pub fn some_verdict_is_allowed()
-    ensures { SomeVerdictIsAllowed }
-{}
-
-/// For all words and files some answer is allowed.
-pub fn some_answer_is_allowed()
-    ensures { SomeAnswerIsAllowed }
-{
-    not_neither();
-}
