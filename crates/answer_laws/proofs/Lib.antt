@@ -8,5 +8,7 @@ pub mod Sorting
 pub mod Written
 pub mod Settings
 pub mod Functions
+pub mod Forms
 pub mod Verdicts
+pub mod Decided
 pub mod Answered

@@ -1,7 +1,9 @@
 //! Laws of answers.
 
-ghost use Rattle.answer_laws.specs.Laws.{SomeReplayIsAllowed, SpellsOrIsRefused, UnbrokenFails, UnopposedIsConsistent};
+ghost use Rattle.answer_laws.specs.Laws.{SomeAnswerIsAllowed, SomeReplayIsAllowed, SomeVerdictIsAllowed, SpellsOrIsRefused, UnbrokenFails, UnopposedIsConsistent};
 ghost use Rattle.answer_laws.specs.Spelled.{FailingIsSpelled};
+
+use c_program::not_neither;
 
 /// Each text spells a candidate or is refused at a line: a longest run of its whole lines with which some spelling begins is
 /// always there.
@@ -30,3 +32,17 @@ pub fn failing_is_spelled()
 pub fn some_replay_is_allowed()
     ensures { SomeReplayIsAllowed }
 {}
+
+/// Of each accepted text, under each model, there is a verdict.
+pub fn some_verdict_is_allowed()
+    ensures { SomeVerdictIsAllowed }
+{}
+
+/// For all words and files some answer is allowed.
+pub fn some_answer_is_allowed()
+    ensures { SomeAnswerIsAllowed }
+{
+    not_neither();
+    some_replay_is_allowed();
+    some_verdict_is_allowed();
+}

@@ -12,11 +12,11 @@ mod FailsRank
 mod FailsWrites
 mod FailsWords
 mod FailsFinal
-mod FailsExecution
+pub mod FailsExecution
 mod FailsWellMade
 mod FailsOrder
 mod Fails
-mod Searching
+pub mod Searching
 mod Building
 mod Layers
 mod Meanings
@@ -26,4 +26,4 @@ mod Mains
 mod Parts
 mod Bridge
 mod Spelled
-mod Shown
+pub mod Shown
