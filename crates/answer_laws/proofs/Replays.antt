@@ -14,7 +14,7 @@ use Rattle.run_model.specs.Threads.{ProgramFails}
 use Rattle.witness_text.specs.Spelling.{HasThreadNumbers, IsNumber, Spells}
 use Rattle.dg_top.specs.Answers.{Answer, BadWitness, Failing, IsReplay, Rejected, bad_witness, failing, rejected}
 use Rattle.answer_laws.specs.Laws.{SomeReplayIsAllowed}
-use Rattle.answer_laws.proofs.Spelled.{spells_or_is_refused}
+use Rattle.answer_laws.proofs.Spelled.{spelled_or_refused}
 use Rattle.answer_laws.proofs.Unbroken.{failing_is_told, unbroken_fails}
 
 -- the numbers of a spelling are words
@@ -32,7 +32,7 @@ module _ (m : MemoryModel) (p : Checked) (witness : List ℕ) (checked : IsCheck
   not_spelled c s = not_failing c s (unbroken_fails p m c checked (words_of c.threads s.numbers.threads) (λ e n b. none (Rejected p e) (rejected c e s b n)))
 
   some_replay : ⊥
-  some_replay = spells_or_is_refused p.functions (cell_names p.cells) witness not_spelled (λ line r. none (BadWitness line) (bad_witness line r))
+  some_replay = spelled_or_refused p.functions (cell_names p.cells) witness not_spelled (λ line r. none (BadWitness line) (bad_witness line r))
 
 pub some_replay_is_allowed : SomeReplayIsAllowed
 some_replay_is_allowed m p witness checked none = some_replay m p witness checked none

@@ -17,14 +17,19 @@ use Rattle.run_model.specs.Threads.{ProgramFails}
 use Rattle.exec_check.specs.declared.Reject.{Reject}
 use Rattle.exec_check.specs.declared.Reject.TheVariants as reject
 use Rattle.exec_check.specs.Broken.{IsFirstBroken}
-use Rattle.witness_text.specs.Spelling.{Refuses, Spells}
+use Rattle.line_text.specs.Lines.{Refuses}
+use Rattle.witness_text.specs.Spelling.{Spells}
 use Rattle.c_program.specs.Accepting.{IsAccepted}
 use Rattle.dg_top.specs.Answers.{Allowed, Answer, IsReplay, IsVerdict}
 use Rattle.dg_top.specs.Settings.{Word}
 
--- each text spells a candidate or is refused at a line
-abbrev pub SpellsOrIsRefused : Type 0
-SpellsOrIsRefused = (functions cells : List (List ℕ)) (text : List ℕ) → ((c : Candidate) → Spells functions cells c text → ⊥) → ((line : ℕ) → Refuses functions cells text line → ⊥) → ⊥
+-- each text spells a value or is refused at a line
+abbrev pub IsSpelledOrRefused : {V : Type 0} → (V → List ℕ → Type 0) → Type 0
+IsSpelledOrRefused {V} Spells = (text : List ℕ) → ((v : V) → Spells v text → ⊥) → ((line : ℕ) → Refuses Spells text line → ⊥) → ⊥
+
+-- so it is with the texts of witnesses
+abbrev pub WitnessesAreSpelledOrRefused : Type 0
+WitnessesAreSpelledOrRefused = (functions cells : List (List ℕ)) → IsSpelledOrRefused (Spells functions cells)
 
 -- a model allows an execution against which there is no evidence
 abbrev pub UnopposedIsConsistent : Type 0

@@ -1,14 +1,14 @@
 //! Laws of answers.
 
-ghost use Rattle.answer_laws.specs.Laws.{SomeAnswerIsAllowed, SomeReplayIsAllowed, SomeVerdictIsAllowed, SpellsOrIsRefused, UnbrokenFails, UnopposedIsConsistent};
+ghost use Rattle.answer_laws.specs.Laws.{SomeAnswerIsAllowed, SomeReplayIsAllowed, SomeVerdictIsAllowed, UnbrokenFails, UnopposedIsConsistent, WitnessesAreSpelledOrRefused};
 ghost use Rattle.answer_laws.specs.Spelled.{FailingIsSpelled};
 
 use c_program::not_neither;
 
 /// Each text spells a candidate or is refused at a line: a longest run of its whole lines with which some spelling begins is
 /// always there.
-pub fn texts_are_spelled_or_refused()
-    ensures { SpellsOrIsRefused }
+pub fn witnesses_are_spelled_or_refused()
+    ensures { WitnessesAreSpelledOrRefused }
 {}
 
 /// A model allows each well made execution against which there is no evidence: where a condition is broken there is a cycle

@@ -14,5 +14,6 @@ mod laws;
 
 pub use laws::{
     failing_is_spelled, some_answer_is_allowed, some_replay_is_allowed, some_verdict_is_allowed,
-    texts_are_spelled_or_refused, unbroken_candidates_fail, unopposed_executions_are_consistent,
+    unbroken_candidates_fail, unopposed_executions_are_consistent,
+    witnesses_are_spelled_or_refused,
 };

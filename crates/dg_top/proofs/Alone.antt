@@ -136,7 +136,7 @@ module _ (one_checked : OneChecked) (not_both : NotBoth) (plain : NamesArePlain)
       → (a : Answer) → IsReplay m p w a → a ≡ Failing h at way
   same_replay bound full text m p w h at way acc g _ (bad_witness line r) = absurd (r.none g.candidate g.spelled)
   same_replay bound full text m p w h at way acc g _ (failing c k bt b s x f) =
-      let one : c ≡ g.candidate = one_candidate p.functions (cell_names p.cells) w c g.candidate (plain bound full text p acc) s g.spelled in
+      let one : c ≡ g.candidate = one_candidate p.functions (cell_names p.cells) (plain bound full text p acc) w c g.candidate s g.spelled in
       same_thread c one x f
     where
       same_thread : (d : Candidate) → d ≡ g.candidate → (y : ProgramFails p m d) → FailsFirst d y.allowed.threads k bt b → Failing k bt b ≡ Failing h at way
@@ -146,7 +146,7 @@ module _ (one_checked : OneChecked) (not_both : NotBoth) (plain : NamesArePlain)
           let both = one_first g.candidate (runs_of p g.candidate.threads) h k at bt way b mine (subst (λ (e : Candidate). FailsFirst e (runs_of p e.threads) k bt b) one its) in
           ap (λ (i : ℕ). Failing i bt b) both.0 ∙ ap (λ (q : Place). Failing h q b) both.1 ∙ ap (λ (z : Bool). Failing h at z) both.2
   same_replay bound full text m p w h at way acc g _ (rejected c e s b n) =
-      let one : c ≡ g.candidate = one_candidate p.functions (cell_names p.cells) w c g.candidate (plain bound full text p acc) s g.spelled in
+      let one : c ≡ g.candidate = one_candidate p.functions (cell_names p.cells) (plain bound full text p acc) w c g.candidate s g.spelled in
       absurd (n (unbroken p m g.candidate e g.fails (subst (λ (d : Candidate). IsFirstBroken p m d e) one b)))
 
   -- the same texts

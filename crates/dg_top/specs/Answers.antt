@@ -17,7 +17,8 @@ use Rattle.run_model.specs.Threads.{ProgramFails}
 use Rattle.exec_check.specs.declared.Reject.{Reject}
 use Rattle.exec_check.specs.declared.Reject.TheVariants as reject
 use Rattle.exec_check.specs.Broken.{IsFirstBroken}
-use Rattle.witness_text.specs.Spelling.{Refuses, Spells}
+use Rattle.line_text.specs.Lines.{Refuses}
+use Rattle.witness_text.specs.Spelling.{Spells}
 use Rattle.c_program.specs.Accepting.{IsAccepted, IsRefused}
 use Rattle.dg_top.specs.declared.settings.Job.TheVariants.{Verify, Replay}
 use Rattle.dg_top.specs.declared.settings.Settings.{Settings}
@@ -59,7 +60,7 @@ pub data IsVerdict (m : MemoryModel) (p : Checked) : Answer → Type 0 where
 
 -- what is answered of a witness's text for a program under a model
 pub data IsReplay (m : MemoryModel) (p : Checked) (witness : List ℕ) : Answer → Type 0 where
-  bad_witness : (line : ℕ) → Refuses p.functions (cell_names p.cells) witness line → IsReplay m p witness (BadWitness line)
+  bad_witness : (line : ℕ) → Refuses (Spells p.functions (cell_names p.cells)) witness line → IsReplay m p witness (BadWitness line)
   failing : (c : Candidate) (handle : ℕ) (at : Place) (bound : Bool) → Spells p.functions (cell_names p.cells) c witness → (x : ProgramFails p m c)
       → FailsFirst c x.allowed.threads handle at bound → IsReplay m p witness (Failing handle at bound)
   rejected : (c : Candidate) (e : Reject) → Spells p.functions (cell_names p.cells) c witness → IsFirstBroken p m c e → e ≢ reject.OutOfMemory

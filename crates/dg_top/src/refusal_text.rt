@@ -4,7 +4,7 @@ ghost use Rattle.dg_top.specs.RefusalText.{kind_text, place_text, refusal_text};
 
 use crate::text::put_place;
 use dg_base::{LimitKind, OutOfMemory, Place, Refusal};
-use witness_text::{put, put_number};
+use line_text::{put, put_number};
 
 // Appends the name of the refusal and its place.
 fn put_placed(out: &mut Vec<u8>, name: &[u8], place: Place) -> Result<(), OutOfMemory>

@@ -8,7 +8,8 @@ use axiom_model::Event;
 use c_check::CellInfo;
 use dg_base::OutOfMemory;
 use exec_check::Reject;
-use witness_text::{put, put_event, put_events, put_number};
+use line_text::{put, put_number};
+use witness_text::{put_event, put_events};
 
 // Appends the words and the number.
 fn put_numbered(out: &mut Vec<u8>, name: &[u8], number: u32) -> Result<(), OutOfMemory>

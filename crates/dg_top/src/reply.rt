@@ -12,8 +12,9 @@ use axiom_model::Candidate;
 use c_check::Checked;
 use dg_base::{OutOfMemory, Place, Refusal};
 use exec_check::Reject;
+use line_text::{put, put_number};
 use std::alloc::Global;
-use witness_text::{print_witness, put, put_number};
+use witness_text::print_witness;
 
 /// An answer: the status of the process, and the bytes that are printed.
 #[derive(Debug, Drop)]

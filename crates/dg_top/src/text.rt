@@ -4,7 +4,7 @@ ghost use Rattle.dg_top.specs.Answers.{bound_text, failing_line};
 ghost use Rattle.dg_top.specs.RefusalText.{place_text};
 
 use dg_base::{OutOfMemory, Place};
-use witness_text::{put, put_number};
+use line_text::{put, put_number};
 
 /// Appends `L:C`.
 pub fn put_place(out: &mut Vec<u8>, place: Place) -> Result<(), OutOfMemory>

@@ -3,7 +3,7 @@ use Rattle.std.proofs.Common.{◌≡◌, ℕ, suc, ◌+◌, min, List, [], ◌�
 use Rattle.std.specs.List.{AllByRecursion}
 use Rattle.std.proofs.lemmas.Option.{same_Some}
 use Rattle.line_text.specs.Words.{Cut, cut, given}
-use Rattle.line_text.specs.Lines.{Begins, BeginsWhole, IsLine, NoProperPrefix, OneValue, Refuses, RefusesLines, text_of, told}
+use Rattle.line_text.specs.Lines.{Begins, BeginsWhole, IsLine, IsLongestRun, NoProperPrefix, OneValue, Refuses, RefusesLines, text_of, told}
 use Rattle.line_text.proofs.Bytes.{cut_from, cut_none, lacking_cut, one_cut}
 use Rattle.line_text.proofs.Texts.{all_back, all_push, front_line, no_line, text_front}
 
@@ -143,62 +143,72 @@ stops m Spells reads lines line s h k ran stop b =
     let here : given (run m m.start (lines ++ line ∷ [])) (λ u. run m u e.rest) ≡ None = ap (λ o. given o (λ u. run m u e.rest)) none in
     cc (e.ran, here)
 
+-- the lines that were read are the longest run, where the reader stops at the next line or no whole line comes next
+pub longest_before : {V S : Type 0} (m : Reader V S) (Spells : V → List ℕ → Type 0) (text rest : List ℕ) (s : S) (n : ℕ) (p : Cut) → Reads m Spells → (h : Reached m text rest s n) → cut 10 rest ≡ Some p → m.step s p.front ≡ None
+    → IsLongestRun Spells text h.lines rest
+longest_before m Spells text rest s n p reads h k e =
+    let parts = cut_from 10 rest p k in
+    record {
+      all = h.all;
+      whole = h.whole;
+      begins = reads.begins h.lines s h.ran;
+      ends = λ line more plain is b.
+          let same = (one_cut 10 line p.front more p.behind plain parts.front (sym is ∙ parts.parts)).0 in
+          stops m Spells reads h.lines p.front s h.whole parts.front h.ran e (subst (λ l. Begins Spells (h.lines ++ l ∷ [])) same b);
+    }
+
+pub longest_end : {V S : Type 0} (m : Reader V S) (Spells : V → List ℕ → Type 0) (text rest : List ℕ) (s : S) (n : ℕ) → Reads m Spells → (h : Reached m text rest s n) → cut 10 rest ≡ None → IsLongestRun Spells text h.lines rest
+longest_end m Spells text rest s n reads h k = record {
+  all = h.all;
+  whole = h.whole;
+  begins = reads.begins h.lines s h.ran;
+  ends = λ line more plain is b. cut_none 10 rest line more k plain is;
+}
+
+-- no spelling goes on with the whole line that stands behind the longest run
+pub refused_run : {V : Type 0} (Spells : V → List ℕ → Type 0) (text : List ℕ) (lines : List (List ℕ)) (rest next more : List ℕ) (n : ℕ) → IsLongestRun Spells text lines rest → IsLine next → rest ≡ next ++ 10 ∷ more
+    → n ≡ told (suc (length lines)) → RefusesLines Spells text n
+refused_run Spells text lines rest next more n run plain on number =
+    let whole : text ≡ text_of (lines ++ next ∷ []) ++ more = run.all ∙ (ap (λ t. text_of lines ++ t) on ∙ front_line lines next more) in
+    record {
+      refuses = record {
+        none = λ v t. run.ends next more plain on (record { value = v; more = more; spelled = subst (Spells v) whole t });
+        lines = lines;
+        rest = rest;
+        run = run;
+        number = number;
+      };
+      next = next;
+      more = more;
+      is_line = plain;
+      goes_on = on;
+    }
+
 pub refused_line : {V S : Type 0} (m : Reader V S) (Spells : V → List ℕ → Type 0) (text rest : List ℕ) (s : S) (n : ℕ) (p : Cut) → Reads m Spells → Reached m text rest s n → cut 10 rest ≡ Some p → m.step s p.front ≡ None
     → RefusesLines Spells text n
 refused_line m Spells text rest s n p reads h k e =
     let parts = cut_from 10 rest p k in
-    let stop = stops m Spells reads h.lines p.front s h.whole parts.front h.ran e in
-    let whole : text ≡ text_of (h.lines ++ p.front ∷ []) ++ p.behind = h.all ∙ (ap (λ t. text_of h.lines ++ t) parts.parts ∙ front_line h.lines p.front p.behind) in
-    record {
-      refuses = record {
-        none = λ v t. stop (record { value = v; more = p.behind; spelled = subst (Spells v) whole t });
-        lines = h.lines;
-        rest = rest;
-        run = record {
-          all = h.all;
-          whole = h.whole;
-          begins = reads.begins h.lines s h.ran;
-          ends = λ line more plain is b.
-              let same = (one_cut 10 line p.front more p.behind plain parts.front (sym is ∙ parts.parts)).0 in
-              stop (subst (λ l. Begins Spells (h.lines ++ l ∷ [])) same b);
-        };
-        number = h.number_is;
-      };
-      next = p.front;
-      more = p.behind;
-      is_line = parts.front;
-      goes_on = parts.parts;
-    }
+    refused_run Spells text h.lines rest p.front p.behind n (longest_before m Spells text rest s n p reads h k e) parts.front parts.parts h.number_is
+
+-- the longest run stays what it is, whatever comes behind a whole line with which no spelling goes on
+pub longest_more : {V : Type 0} (Spells : V → List ℕ → Type 0) (text : List ℕ) (lines : List (List ℕ)) (rest next more piece : List ℕ) → IsLongestRun Spells text lines rest → IsLine next → rest ≡ next ++ 10 ∷ more
+    → IsLongestRun Spells (text ++ piece) lines (rest ++ piece)
+longest_more Spells text lines rest next more piece run plain on = record {
+  all = ap (λ x. x ++ piece) run.all ∙ append_assoc (text_of lines) rest piece;
+  whole = run.whole;
+  begins = run.begins;
+  ends = λ line behind is_line is b.
+      let whole : next ++ 10 ∷ (more ++ piece) ≡ line ++ 10 ∷ behind = sym (ap (λ x. x ++ piece) on ∙ append_assoc next (10 ∷ more) piece) ∙ is in
+      let same : next ≡ line = (one_cut 10 next line (more ++ piece) behind plain is_line whole).0 in
+      run.ends next more plain on (subst (λ l. Begins Spells (lines ++ l ∷ [])) (sym same) b);
+}
 
 -- a text that was refused at a line is refused there, whatever comes behind it
-pub refused_more : {V S : Type 0} (m : Reader V S) (Spells : V → List ℕ → Type 0) (text piece : List ℕ) (n : ℕ) → Reads m Spells → RefusesLines Spells text n → RefusesLines Spells (text ++ piece) n
-refused_more m Spells text piece n reads h =
+pub refused_more : {V : Type 0} (Spells : V → List ℕ → Type 0) (text piece : List ℕ) (n : ℕ) → RefusesLines Spells text n → RefusesLines Spells (text ++ piece) n
+refused_more Spells text piece n h =
     let r = h.refuses in
-    let run = r.run in
     let on : r.rest ++ piece ≡ h.next ++ 10 ∷ (h.more ++ piece) = ap (λ x. x ++ piece) h.goes_on ∙ append_assoc h.next (10 ∷ h.more) piece in
-    let all : text ++ piece ≡ text_of r.lines ++ (r.rest ++ piece) = ap (λ x. x ++ piece) run.all ∙ append_assoc (text_of r.lines) r.rest piece in
-    let stop : Begins Spells (r.lines ++ h.next ∷ []) → ⊥ = run.ends h.next h.more h.is_line h.goes_on in
-    let whole : text ++ piece ≡ text_of (r.lines ++ h.next ∷ []) ++ (h.more ++ piece) = all ∙ (ap (λ t. text_of r.lines ++ t) on ∙ front_line r.lines h.next (h.more ++ piece)) in
-    record {
-      refuses = record {
-        none = λ v t. stop (record { value = v; more = h.more ++ piece; spelled = subst (Spells v) whole t });
-        lines = r.lines;
-        rest = r.rest ++ piece;
-        run = record {
-          all = all;
-          whole = run.whole;
-          begins = run.begins;
-          ends = λ line more plain is b.
-              let same = (one_cut 10 line h.next more (h.more ++ piece) plain h.is_line (sym is ∙ on)).0 in
-              stop (subst (λ l. Begins Spells (r.lines ++ l ∷ [])) same b);
-        };
-        number = r.number;
-      };
-      next = h.next;
-      more = h.more ++ piece;
-      is_line = h.is_line;
-      goes_on = on;
-    }
+    refused_run Spells (text ++ piece) r.lines (r.rest ++ piece) h.next (h.more ++ piece) n (longest_more Spells text r.lines r.rest h.next h.more piece r.run h.is_line h.goes_on) h.is_line on r.number
 
 pub refused_end : {V S : Type 0} (m : Reader V S) (Spells : V → List ℕ → Type 0) (text rest : List ℕ) (s : S) (n : ℕ) → Reads m Spells → Reached m text rest s n → cut 10 rest ≡ None → ((v : V) → m.value s ≡ Some v → rest ≡ [] → ⊥)
     → Refuses Spells text n
@@ -212,12 +222,7 @@ refused_end m Spells text rest s n reads h k e = record {
       e v (ap m.value same ∙ f.value) (f.text ∙ ap text_of nil);
   lines = h.lines;
   rest = rest;
-  run = record {
-    all = h.all;
-    whole = h.whole;
-    begins = reads.begins h.lines s h.ran;
-    ends = λ line more plain is b. cut_none 10 rest line more k plain is;
-  };
+  run = longest_end m Spells text rest s n reads h k;
   number = h.number_is;
 }
 

@@ -1,5 +1,6 @@
 -- Lines as bytes: which lines a text begins with, and that a text goes wrong at one line.
-use Rattle.std.proofs.Common.{◌≡◌, ℕ, suc, List, [], ◌∷◌, ◌++◌, length, true, None, refl, ap, sym, ◌∙◌, subst, append_assoc}
+use Rattle.std.proofs.Common.{◌≡◌, ℕ, suc, List, [], ◌∷◌, ◌++◌, length, true, None, Result, Ok, Err, refl, ap, sym, ◌∙◌, subst, append_assoc}
+use Rattle.std.specs.Prelude.{OnOk}
 use Rattle.std.specs.List.{AllByRecursion}
 use Rattle.std.proofs.lemmas.List.{append_cancel_left}
 use Rattle.line_text.specs.Words.{cut, lacks}
@@ -57,7 +58,7 @@ no_line rest (l ∷ lines) k h e = absurd (cut_none 10 rest l (text_of lines) k 
 -- ---- the longest run
 
 -- what begins with lines begins with the first of them
-begins_front : {V : Type 0} (Spells : V → List ℕ → Type 0) (a b : List (List ℕ)) → Begins Spells (a ++ b) → Begins Spells a
+pub begins_front : {V : Type 0} (Spells : V → List ℕ → Type 0) (a b : List (List ℕ)) → Begins Spells (a ++ b) → Begins Spells a
 begins_front Spells a b h = record {
   value = h.value;
   more = text_of b ++ h.more;
@@ -99,6 +100,11 @@ not_refused Spells text n h k =
     no_line_behind k.next k.more (append_cancel_left (text_of h.lines) h.rest refused.rest both ∙ k.goes_on)
 
 -- ---- texts that are written part by part
+
+-- what follows from the value of an Ok
+pub on_ok : {T E : Type 0} (r : Result T E) (P Q : Type 0) → (P → Q) → OnOk r P → OnOk r Q
+on_ok (Ok v) P Q f p = f p
+on_ok (Err e) P Q f p = p
 
 -- one more part behind what was there with the parts before
 pub then_part : {x y z : List ℕ} (part : List ℕ) → x ≡ y → z ≡ x ++ part → z ≡ y ++ part

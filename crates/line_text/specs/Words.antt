@@ -76,3 +76,8 @@ words_in read (x ∷ xs) = if x == 32 then read_all read (front_word xs ∷ word
 -- values as words, each behind one blank
 abbrev pub shown : {A : Type 0} → (A → List ℕ) → List A → List ℕ
 shown show vs = flat_map (λ v. 32 ∷ show v) vs
+
+-- nothing, or a blank in front
+abbrev pub opens : List ℕ → Bool
+opens [] = true
+opens (x ∷ xs) = x == 32

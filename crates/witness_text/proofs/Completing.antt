@@ -8,21 +8,16 @@ use Rattle.axiom_model.specs.declared.Candidate.{Candidate}
 use Rattle.witness_text.specs.declared.reading.Stage.{Stage}
 use Rattle.witness_text.specs.declared.reading.Stage.TheVariants.{Head, Between, Script, End}
 use Rattle.witness_text.specs.declared.reading.Reading.{Reading}
-use Rattle.witness_text.specs.Witness.{co_lines, first_line, last_line, rf_line, script_line, text_of, thread_lines, witness_lines}
-use Rattle.witness_text.specs.Spelling.{Begins, HasEventNumbers, Spells}
-use Rattle.witness_text.specs.Lines.{given}
+use Rattle.line_text.specs.Lines.{Begins, text_of}
+use Rattle.line_text.proofs.Texts.{begins_front, text_of_append}
+use Rattle.witness_text.specs.Witness.{co_lines, first_line, last_line, rf_line, script_line, thread_lines, witness_lines}
+use Rattle.witness_text.specs.Spelling.{HasEventNumbers, Spells}
+use Rattle.line_text.specs.Words.{given}
 use Rattle.witness_text.specs.Machine.{part_of, with_script}
 use Rattle.witness_text.proofs.Spelled.{script_of}
 use Rattle.c_check.proofs.PlainNames.{all_append}
-use Rattle.witness_text.proofs.Texts.{text_of_append}
 use Rattle.witness_text.proofs.Holding.{Holds, co_lines_append, state}
 use Rattle.witness_text.proofs.Stepping.{step_holds}
-
--- a front of what begins a spelling
-pub begins_front : (fs cs a b : List (List ℕ)) → Begins fs cs (a ++ b) → Begins fs cs a
-begins_front fs cs a b h =
-    let text : text_of (a ++ b) ++ h.1 ≡ text_of a ++ (text_of b ++ h.1) = ap (λ t. t ++ h.1) (text_of_append a b) ∙ append_assoc (text_of a) (text_of b) h.1 in
-    (h.0, text_of b ++ h.1, subst (Spells fs cs h.0) text h.2)
 
 all_replicate : {A : Type 0} (P : A → Type 0) (n : ℕ) (x : A) → P x → AllByRecursion P (replicate n x)
 all_replicate P zero x h = tt
@@ -31,7 +26,7 @@ all_replicate P (suc n) x h = (h, all_replicate P n x h)
 regroup : (t p o e l : List (List ℕ)) → t ++ (p ++ ((o ++ e) ++ l)) ≡ (t ++ (p ++ o)) ++ (e ++ l)
 regroup t p o e l = simp append_assoc
 
-between_begins : (fs cs lines : List (List ℕ)) (c : Candidate) → Holds fs cs lines (state Between c) → Begins fs cs lines
+between_begins : (fs cs lines : List (List ℕ)) (c : Candidate) → Holds fs cs lines (state Between c) → Begins (Spells fs cs) lines
 between_begins fs cs lines c h =
     let n = length cs - length c.co in
     let empty : List Event = [] in
@@ -45,15 +40,16 @@ between_begins fs cs lines c h =
     let rest = co_lines cs (0 + length c.co) missing in
     let all : witness_lines fs cs whole ≡ (first_line ∷ (threads ++ (pairs ++ co_lines cs 0 c.co))) ++ (rest ++ last_line ∷ []) =
     ap (λ o. first_line ∷ (threads ++ (pairs ++ (o ++ last_line ∷ [])))) (co_lines_append cs 0 c.co missing) ∙ ap (λ l. first_line ∷ l) (regroup threads pairs (co_lines cs 0 c.co) rest (last_line ∷ [])) in
-    let here : lines ++ (rest ++ last_line ∷ []) ≡ witness_lines fs cs whole = ap (λ l. l ++ (rest ++ last_line ∷ [])) h.lines_are ∙ sym all in (
-      whole,
-      text_of (rest ++ last_line ∷ []),
-      record {
+    let here : lines ++ (rest ++ last_line ∷ []) ≡ witness_lines fs cs whole = ap (λ l. l ++ (rest ++ last_line ∷ [])) h.lines_are ∙ sym all in
+    record {
+      value = whole;
+      more = text_of (rest ++ last_line ∷ []);
+      spelled = record {
         numbers = record { threads = h.part.threads; rf = h.part.rf; co = all_append (AllByRecursion HasEventNumbers) c.co missing h.part.co (all_replicate (AllByRecursion HasEventNumbers) n empty tt) };
         spellable = record { known = h.part.known; rising_handles = h.part.rising_handles; actions = h.part.actions; rising_readers = h.part.rising_readers; orders = orders };
         spelled = sym (text_of_append lines (rest ++ last_line ∷ [])) ∙ ap text_of here;
-      },
-    )
+      };
+    }
 
 -- what is read to the end is spelled
 pub end_spells : (fs cs lines : List (List ℕ)) (c : Candidate) → Holds fs cs lines (state End c) → Spells fs cs c (text_of lines)
@@ -63,15 +59,15 @@ end_spells fs cs lines c h = record {
   spelled = ap text_of h.lines_are;
 }
 
-stage_begins : (fs cs lines : List (List ℕ)) (g : Stage) (c : Candidate) → Holds fs cs lines (state g c) → Begins fs cs lines
-stage_begins fs cs lines Head c h = begins_front fs cs lines (first_line ∷ []) (between_begins fs cs (lines ++ first_line ∷ []) c (step_holds fs cs lines (state Head c) first_line (state Between c) h refl))
+stage_begins : (fs cs lines : List (List ℕ)) (g : Stage) (c : Candidate) → Holds fs cs lines (state g c) → Begins (Spells fs cs) lines
+stage_begins fs cs lines Head c h = begins_front (Spells fs cs) lines (first_line ∷ []) (between_begins fs cs (lines ++ first_line ∷ []) c (step_holds fs cs lines (state Head c) first_line (state Between c) h refl))
 stage_begins fs cs lines Between c h = between_begins fs cs lines c h
 stage_begins fs cs lines (Script head) c h =
     let next : Candidate = record c { threads = c.threads ++ part_of head [] ∷ [] } in
-    begins_front fs cs lines (script_line [] ∷ [])
+    begins_front (Spells fs cs) lines (script_line [] ∷ [])
     (between_begins fs cs (lines ++ script_line [] ∷ []) next (step_holds fs cs lines (state (Script head) c) (script_line []) (state Between next) h (ap (λ o. given o (with_script c head)) (script_of [] tt))))
 stage_begins fs cs lines End c h =
-    (c, [], subst (Spells fs cs c) (sym (append-nil (text_of lines))) (end_spells fs cs lines c h))
+    record { value = c; more = []; spelled = subst (Spells fs cs c) (sym (append-nil (text_of lines))) (end_spells fs cs lines c h) }
 
-pub begins_of : (fs cs lines : List (List ℕ)) (r : Reading) → Holds fs cs lines r → Begins fs cs lines
+pub begins_of : (fs cs lines : List (List ℕ)) (r : Reading) → Holds fs cs lines r → Begins (Spells fs cs) lines
 begins_of fs cs lines r h = stage_begins fs cs lines r.stage r.candidate h

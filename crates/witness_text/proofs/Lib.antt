@@ -1,11 +1,10 @@
 pub mod Answering
-pub mod Bytes
 pub mod Completing
-pub mod Digits
 pub mod Holding
+pub mod Plain
+pub mod Reader
 pub mod Rising
 pub mod Running
 pub mod Spelled
 pub mod Stepping
 pub mod Texts
-pub mod Worded

@@ -1,14 +1,9 @@
 -- Lists of which each stands before the next one.
 use Rattle.std.proofs.Common.{◌≡◌, suc, ◌-◌, Bool, true, List, [], ◌∷◌, ◌++◌, length, Some, refl, ap, sym, ◌∙◌, arith}
 use Rattle.std.specs.Prelude.{slice_get}
-use Rattle.std.specs.List.{AllByRecursion}
 use Rattle.std.proofs.lemmas.Bool.{and_parts}
-use Rattle.c_check.proofs.PlainNames.{all_append}
 use Rattle.witness_text.specs.Spelling.{rises_from, rises}
 use Rattle.witness_text.specs.Machine.{last_before, may_follow}
-
-pub all_push : {A : Type 0} (P : A → Type 0) (xs : List A) (y : A) → AllByRecursion P xs → P y → AllByRecursion P (xs ++ y ∷ [])
-all_push P xs y h k = all_append P xs (y ∷ []) h (k, tt)
 
 -- the last of a list that is not empty
 abbrev final : {A : Type 0} → A → List A → A

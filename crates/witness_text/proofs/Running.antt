@@ -12,21 +12,16 @@ use Rattle.witness_text.specs.declared.reading.Reading.{Reading}
 use Rattle.witness_text.specs.Witness.{co_line, co_lines, events_text, last_line, name_at, rf_line, script_line, thread_line, thread_lines, witness_lines}
 use Rattle.c_check.specs.PlainNames.{HasPlainNames}
 use Rattle.witness_text.specs.Spelling.{HasEventNumbers, HasNumbers, HasPairNumbers, HasThreadNumbers, IsSpellable, handle_before, is_action, reader_before, rises}
-use Rattle.witness_text.specs.Lines.{given, order_in}
-use Rattle.witness_text.specs.Machine.{begun, may_follow, part_of, run, start, step, with_order, with_pair, with_script}
+use Rattle.line_text.specs.Words.{given}
+use Rattle.witness_text.specs.Lines.{order_in}
+use Rattle.witness_text.specs.Machine.{begun, may_follow, part_of, start, step, with_order, with_pair, with_script}
 use Rattle.witness_text.proofs.Spelled.{head_of, order_of, script_of, source_of}
 use Rattle.witness_text.proofs.Rising.{rises_follows}
 use Rattle.witness_text.proofs.Holding.{state}
+use Rattle.witness_text.proofs.Plain.{all_lack}
+use Rattle.witness_text.proofs.Reader.{reader}
+use Rattle.line_text.proofs.Reading.{run}
 use Rattle.witness_text.proofs.Stepping.{follows_same}
-
-pub run_append : (fs cs : List (List ℕ)) (r : Reading) (a b : List (List ℕ)) → run fs cs r (a ++ b) ≡ given (run fs cs r a) (λ s. run fs cs s b)
-run_append fs cs r [] b = refl
-run_append fs cs r (l ∷ a) b = split (step fs cs r l) (λ s. run_append fs cs s a b)
-  where
-    split : (o : Option Reading) → ((s : Reading) → run fs cs s (a ++ b) ≡ given (run fs cs s a) (λ t. run fs cs t b))
-        → given o (λ s. run fs cs s (a ++ b)) ≡ given (given o (λ s. run fs cs s a)) (λ s. run fs cs s b)
-    split None more = refl
-    split (Some s) more = more s
 
 abbrev made : List ThreadPart → List RfPair → List (List Event) → Candidate
 made ts ps os = record { threads = ts; rf = ps; co = os }
@@ -40,7 +35,7 @@ step_thread fs cs names ts p n k f =
     let c = made ts [] [] in
     let h = head_part p in
     let follows : may_follow handle_before ts (part_of h []) ≡ true = follows_same (slice_get ts (length ts - 1)) h p.script ∙ f in
-    ap (λ o. given o (begun c)) (head_of fs h names.no_blank names.distinct n.handle n.function n.arg k)
+    ap (λ o. given o (begun c)) (head_of fs h (all_lack 32 fs names.no_blank) names.distinct n.handle n.function n.arg k)
     ∙ ap (λ (b : Bool). cond b (Some (state (Script h) c)) None) follows
 
 step_script : (fs cs : List (List ℕ)) (ts : List ThreadPart) (p : ThreadPart) → HasThreadNumbers p
@@ -49,16 +44,16 @@ step_script fs cs ts p n = ap (λ o. given o (with_script (made ts [] []) (head_
 
 run_threads : (fs cs : List (List ℕ)) (names : HasPlainNames fs cs) (ts more : List ThreadPart) (rest : List (List ℕ)) → AllByRecursion HasThreadNumbers more
     → AllByRecursion (λ (p : ThreadPart). p.function < length fs) more → rises handle_before (ts ++ more) ≡ true
-    → run fs cs (state Between (made ts [] [])) (flat_map (thread_lines fs) more ++ rest) ≡ run fs cs (state Between (made (ts ++ more) [] [])) rest
-run_threads fs cs names ts [] rest n k r = ap (λ l. run fs cs (state Between (made l [] [])) rest) (sym (append-nil ts))
+    → run (reader fs cs) (state Between (made ts [] [])) (flat_map (thread_lines fs) more ++ rest) ≡ run (reader fs cs) (state Between (made (ts ++ more) [] [])) rest
+run_threads fs cs names ts [] rest n k r = ap (λ l. run (reader fs cs) (state Between (made l [] [])) rest) (sym (append-nil ts))
 run_threads fs cs names ts (p ∷ ps) rest n k r =
     let behind = flat_map (thread_lines fs) ps ++ rest in
     let first = step_thread fs cs names ts p n.0 k.0 (rises_follows handle_before ts p ps r) in
     let second = step_script fs cs ts p n.0 in
     let again : rises handle_before ((ts ++ p ∷ []) ++ ps) ≡ true = ap (rises handle_before) (append_assoc ts (p ∷ []) ps) ∙ r in
-    ap (λ o. given o (λ s. run fs cs s (script_line p.script ∷ behind))) first
-    ∙ (ap (λ o. given o (λ s. run fs cs s behind)) second
-    ∙ (run_threads fs cs names (ts ++ p ∷ []) ps rest n.1 k.1 again ∙ ap (λ l. run fs cs (state Between (made l [] [])) rest) (append_assoc ts (p ∷ []) ps)))
+    ap (λ o. given o (λ s. run (reader fs cs) s (script_line p.script ∷ behind))) first
+    ∙ (ap (λ o. given o (λ s. run (reader fs cs) s behind)) second
+    ∙ (run_threads fs cs names (ts ++ p ∷ []) ps rest n.1 k.1 again ∙ ap (λ l. run (reader fs cs) (state Between (made l [] [])) rest) (append_assoc ts (p ∷ []) ps)))
 
 step_pair : (fs cs : List (List ℕ)) (ts : List ThreadPart) (ps : List RfPair) (p : RfPair) → HasPairNumbers p → is_action p.reader ≡ true → may_follow reader_before ps p ≡ true
     → step fs cs (state Between (made ts ps [])) (rf_line p) ≡ Some (state Between (made ts (ps ++ p ∷ []) []))
@@ -68,12 +63,12 @@ step_pair fs cs ts ps p n a f =
 
 run_pairs : (fs cs : List (List ℕ)) (ts : List ThreadPart) (ps more : List RfPair) (rest : List (List ℕ)) → AllByRecursion HasPairNumbers more
     → AllByRecursion (λ (p : RfPair). is_action p.reader ≡ true) more → rises reader_before (ps ++ more) ≡ true
-    → run fs cs (state Between (made ts ps [])) (map rf_line more ++ rest) ≡ run fs cs (state Between (made ts (ps ++ more) [])) rest
-run_pairs fs cs ts ps [] rest n a r = ap (λ l. run fs cs (state Between (made ts l [])) rest) (sym (append-nil ps))
+    → run (reader fs cs) (state Between (made ts ps [])) (map rf_line more ++ rest) ≡ run (reader fs cs) (state Between (made ts (ps ++ more) [])) rest
+run_pairs fs cs ts ps [] rest n a r = ap (λ l. run (reader fs cs) (state Between (made ts l [])) rest) (sym (append-nil ps))
 run_pairs fs cs ts ps (p ∷ more) rest n a r =
     let again : rises reader_before ((ps ++ p ∷ []) ++ more) ≡ true = ap (rises reader_before) (append_assoc ps (p ∷ []) more) ∙ r in
-    ap (λ o. given o (λ s. run fs cs s (map rf_line more ++ rest))) (step_pair fs cs ts ps p n.0 a.0 (rises_follows reader_before ps p more r))
-    ∙ (run_pairs fs cs ts (ps ++ p ∷ []) more rest n.1 a.1 again ∙ ap (λ l. run fs cs (state Between (made ts l [])) rest) (append_assoc ps (p ∷ []) more))
+    ap (λ o. given o (λ s. run (reader fs cs) s (map rf_line more ++ rest))) (step_pair fs cs ts ps p n.0 a.0 (rises_follows reader_before ps p more r))
+    ∙ (run_pairs fs cs ts (ps ++ p ∷ []) more rest n.1 a.1 again ∙ ap (λ l. run (reader fs cs) (state Between (made ts l [])) rest) (append_assoc ps (p ∷ []) more))
 
 get_name : (cs : List (List ℕ)) (i : ℕ) → i < length cs → slice_get cs i ≡ Some (name_at cs i)
 get_name [] i h = absurd (omega arith)
@@ -89,8 +84,8 @@ step_order fs cs ts ps os es n l =
 
 run_orders : (fs cs : List (List ℕ)) (ts : List ThreadPart) (ps : List RfPair) (os more : List (List Event)) (i : ℕ) (rest : List (List ℕ)) → i ≡ length os
     → AllByRecursion (AllByRecursion HasEventNumbers) more → length os + length more ≤ length cs
-    → run fs cs (state Between (made ts ps os)) (co_lines cs i more ++ rest) ≡ run fs cs (state Between (made ts ps (os ++ more))) rest
-run_orders fs cs ts ps os [] i rest at n l = ap (λ o. run fs cs (state Between (made ts ps o)) rest) (sym (append-nil os))
+    → run (reader fs cs) (state Between (made ts ps os)) (co_lines cs i more ++ rest) ≡ run (reader fs cs) (state Between (made ts ps (os ++ more))) rest
+run_orders fs cs ts ps os [] i rest at n l = ap (λ o. run (reader fs cs) (state Between (made ts ps o)) rest) (sym (append-nil os))
 run_orders fs cs ts ps os (es ∷ more) i rest at n l =
     let behind = co_lines cs (i + 1) more ++ rest in
     let here : step fs cs (state Between (made ts ps os)) (co_line (name_at cs i) es) ≡ Some (state Between (made ts ps (os ++ es ∷ []))) =
@@ -98,13 +93,13 @@ run_orders fs cs ts ps os (es ∷ more) i rest at n l =
     let one = length-append os (es ∷ []) in
     let next : i + 1 ≡ length (os ++ es ∷ []) = omega (arith, one) in
     let low : length (os ++ es ∷ []) + length more ≤ length cs = omega (arith, one) in
-    ap (λ o. given o (λ s. run fs cs s behind)) here
-    ∙ (run_orders fs cs ts ps (os ++ es ∷ []) more (i + 1) rest next n.1 low ∙ ap (λ o. run fs cs (state Between (made ts ps o)) rest) (append_assoc os (es ∷ []) more))
+    ap (λ o. given o (λ s. run (reader fs cs) s behind)) here
+    ∙ (run_orders fs cs ts ps (os ++ es ∷ []) more (i + 1) rest next n.1 low ∙ ap (λ o. run (reader fs cs) (state Between (made ts ps o)) rest) (append_assoc os (es ∷ []) more))
 
-step_end : (fs cs : List (List ℕ)) (c : Candidate) → length c.co ≡ length cs → run fs cs (state Between c) (last_line ∷ []) ≡ Some (state End c)
-step_end fs cs c h = ap (λ (b : Bool). given (cond b (Some (state End c)) None) (λ s. run fs cs s [])) (eq-eqb (length c.co) (length cs) h)
+step_end : (fs cs : List (List ℕ)) (c : Candidate) → length c.co ≡ length cs → run (reader fs cs) (state Between c) (last_line ∷ []) ≡ Some (state End c)
+step_end fs cs c h = ap (λ (b : Bool). given (cond b (Some (state End c)) None) (λ s. run (reader fs cs) s [])) (eq-eqb (length c.co) (length cs) h)
 
-pub run_lines : (fs cs : List (List ℕ)) (c : Candidate) → HasPlainNames fs cs → HasNumbers c → IsSpellable fs cs c → run fs cs start (witness_lines fs cs c) ≡ Some (state End c)
+pub run_lines : (fs cs : List (List ℕ)) (c : Candidate) → HasPlainNames fs cs → HasNumbers c → IsSpellable fs cs c → run (reader fs cs) start (witness_lines fs cs c) ≡ Some (state End c)
 run_lines fs cs c names n s =
     let last = last_line ∷ [] in
     let orders = co_lines cs 0 c.co ++ last in

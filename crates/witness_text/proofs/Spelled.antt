@@ -1,19 +1,23 @@
 -- Each reader of a part of a line answers a value exactly where the part is the value's text.
 use Rattle.std.proofs.Common.{◌≡◌, ◌≢◌, ℕ, zero, suc, ◌+◌, ◌<◌, ◌^◌, Bool, true, false, not, cond, eqb, nat_lt, List, [], ◌∷◌, ◌++◌, length, Option, Some, None, refl, ap, sym, ◌∙◌, subst, arith, one-add, lt-ltb, ltb-true, eqb-true}
-use Rattle.std.specs.Prelude.{codes, decimal}
+use Rattle.std.specs.Prelude.{codes, decimal, bytes_eq}
 use Rattle.std.specs.List.{AllByRecursion, position_or_len}
 use Rattle.axiom_model.specs.declared.Event.{Event}
 use Rattle.axiom_model.specs.declared.Event.TheVariants.{Initial, At}
 use Rattle.axiom_model.specs.declared.RfPair.{RfPair}
 use Rattle.witness_text.specs.declared.lines.ThreadHead.{ThreadHead}
 use Rattle.witness_text.specs.Witness.{event_text, events_text, name_at, script_line}
-use Rattle.c_check.specs.PlainNames.{lacks, AreDistinct}
+use Rattle.line_text.specs.Words.{lacks}
+use Rattle.c_check.specs.PlainNames.{AreDistinct}
 use Rattle.witness_text.specs.Spelling.{IsNumber, HasEventNumbers, HasPairNumbers, is_action}
-use Rattle.witness_text.specs.Lines.{given, same_bytes, strip, Cut, cut, number_in, action_in, event_in, words_in, narrow, function_in, head_in, source_in, order_in, script_in}
-use Rattle.c_check.proofs.PlainNames.{all_map, lacks_append}
-use Rattle.witness_text.proofs.Bytes.{same_bytes_refl, same_bytes_same, strip_front, strip_from, cut_at, cut_from}
-use Rattle.witness_text.proofs.Digits.{number_from, number_decimal, decimal_lacks}
-use Rattle.witness_text.proofs.Worded.{Told, words_complete, words_sound}
+use Rattle.line_text.specs.Words.{given, strip, Cut, cut, number_in, words_in}
+use Rattle.witness_text.specs.Lines.{action_in, event_in, narrow, function_in, head_in, source_in, order_in, script_in}
+use Rattle.line_text.proofs.Bytes.{lacks_append}
+use Rattle.c_check.proofs.PlainNames.{all_map}
+use Rattle.line_text.proofs.Bytes.{strip_front, strip_from, cut_at, cut_from}
+use Rattle.std.proofs.lemmas.Slice.Eq.{bytes_eq-Decides}
+use Rattle.line_text.proofs.Digits.{number_from, number_decimal, decimal_lacks}
+use Rattle.line_text.proofs.Worded.{Told, words_complete, words_sound}
 
 -- what the text of an event lacks
 pub event_lacks : (b : ℕ) (e : Event) → b < 46 → lacks b (codes "init") ≡ true → HasEventNumbers e → lacks b (event_text e) ≡ true
@@ -47,7 +51,7 @@ action_from t e = by_cut (cut 46 t) refl
         let first = number_from p.front h f in
         let second = number_from p.behind i g in
         let same : At h i ≡ e = cc in
-        let text : t ≡ decimal h ++ 46 ∷ decimal i = parts.parts ∙ (ap (λ l. l ++ 46 ∷ p.behind) first.text ∙ ap (λ l. decimal h ++ 46 ∷ l) second.text) in
+        let text : t ≡ decimal h ++ 46 ∷ decimal i = parts.parts ∙ (ap (λ l. l ++ 46 ∷ p.behind) first.digits ∙ ap (λ l. decimal h ++ 46 ∷ l) second.digits) in
         subst (IsActionText t) same (record { text = text; numbers = (first.small, second.small); action = refl })
 
     by_handle : (p : Cut) → cut 46 t ≡ Some p → (o : Option ℕ) → number_in p.front ≡ o → given o (λ h. given (number_in p.behind) (λ i. Some (At h i))) ≡ Some e → IsActionText t e
@@ -64,29 +68,29 @@ action_of (At k i) h a = action_text k i h.0 h.1
 
 pub event_of : (e : Event) → HasEventNumbers e → event_in (event_text e) ≡ Some e
 event_of Initial h = refl
-event_of (At k i) h = step (same_bytes (decimal k ++ 46 ∷ decimal i) (codes "init")) refl
+event_of (At k i) h = step (bytes_eq (decimal k ++ 46 ∷ decimal i) (codes "init")) refl
   where
-    step : (b : Bool) → same_bytes (decimal k ++ 46 ∷ decimal i) (codes "init") ≡ b → cond b (Some Initial) (action_in (decimal k ++ 46 ∷ decimal i)) ≡ Some (At k i)
+    step : (b : Bool) → bytes_eq (decimal k ++ 46 ∷ decimal i) (codes "init") ≡ b → cond b (Some Initial) (action_in (decimal k ++ 46 ∷ decimal i)) ≡ Some (At k i)
     step false e = action_text k i h.0 h.1
     step true e =
-        let text = same_bytes_same (decimal k ++ 46 ∷ decimal i) (codes "init") e in
+        let text = (bytes_eq-Decides (decimal k ++ 46 ∷ decimal i) (codes "init")).0 e in
         let here = action_text k i h.0 h.1 in
         let none : action_in (codes "init") ≡ None = refl in
         let there : action_in (decimal k ++ 46 ∷ decimal i) ≡ None = ap action_in text ∙ none in
         cc
 
 pub event_from : (t : List ℕ) (e : Event) → event_in t ≡ Some e → Told event_text HasEventNumbers t e
-event_from t e = step (same_bytes t (codes "init")) refl
+event_from t e = step (bytes_eq t (codes "init")) refl
   where
-    step : (b : Bool) → same_bytes t (codes "init") ≡ b → cond b (Some Initial) (action_in t) ≡ Some e → Told event_text HasEventNumbers t e
+    step : (b : Bool) → bytes_eq t (codes "init") ≡ b → cond b (Some Initial) (action_in t) ≡ Some e → Told event_text HasEventNumbers t e
     step false k g = let a = action_from t e g in record { text = a.text; good = a.numbers }
     step true k g =
-        let text = same_bytes_same t (codes "init") k in
+        let text = (bytes_eq-Decides t (codes "init")).0 k in
         let same : Initial ≡ e = cc in
         subst (Told event_text HasEventNumbers t) same (record { text = text; good = tt })
 
 pub number_told : (t : List ℕ) (n : ℕ) → number_in t ≡ Some n → Told decimal IsNumber t n
-number_told t n e = let d = number_from t n e in record { text = d.text; good = d.small }
+number_told t n e = let d = number_from t n e in record { text = d.digits; good = d.small }
 
 -- the script's line
 pub script_of : (vs : List ℕ) → AllByRecursion IsNumber vs → script_in (script_line vs) ≡ Some vs
@@ -167,16 +171,16 @@ name_has P [] i h l = absurd (omega arith)
 name_has P (f ∷ fs) zero h l = h.0
 name_has P (f ∷ fs) (suc i) h l = name_has P fs i h.1 (omega arith)
 
-other_bytes : (f g : List ℕ) → f ≢ g → same_bytes f g ≡ false
-other_bytes f g h = step (same_bytes f g) refl
+other_bytes : (f g : List ℕ) → f ≢ g → bytes_eq f g ≡ false
+other_bytes f g h = step (bytes_eq f g) refl
   where
-    step : (b : Bool) → same_bytes f g ≡ b → b ≡ false
-    step true k = absurd (h (same_bytes_same f g k))
+    step : (b : Bool) → bytes_eq f g ≡ b → b ≡ false
+    step true k = absurd (h ((bytes_eq-Decides f g).0 k))
     step false k = refl
 
-place_of_name : (fs : List (List ℕ)) (i : ℕ) → AreDistinct fs → i < length fs → position_or_len (λ f. same_bytes f (name_at fs i)) fs ≡ i
+place_of_name : (fs : List (List ℕ)) (i : ℕ) → AreDistinct fs → i < length fs → position_or_len (λ f. bytes_eq f (name_at fs i)) fs ≡ i
 place_of_name [] i d l = absurd (omega arith)
-place_of_name (f ∷ fs) zero d l = rw (same_bytes_refl f) refl
+place_of_name (f ∷ fs) zero d l = rw ((bytes_eq-Decides f f).1 refl) refl
 place_of_name (f ∷ fs) (suc i) d l =
     let apart = other_bytes f (name_at fs i) (name_has (λ y. f ≢ y) fs i d.0 (omega arith)) in
     rw apart (ap (λ n. 1 + n) (place_of_name fs i d.1 (omega arith)) ∙ one-add i)
@@ -184,16 +188,16 @@ place_of_name (f ∷ fs) (suc i) d l =
 pub function_of : (fs : List (List ℕ)) (i : ℕ) → AreDistinct fs → i < length fs → IsNumber i → function_in fs (name_at fs i) ≡ Some i
 function_of fs i d l n = rw (place_of_name fs i d l, lt-ltb i (length fs) l, lt-ltb i (2 ^ 32) n) refl
 
-name_of_place : (fs : List (List ℕ)) (name : List ℕ) → position_or_len (λ f. same_bytes f name) fs < length fs → name_at fs (position_or_len (λ f. same_bytes f name) fs) ≡ name
+name_of_place : (fs : List (List ℕ)) (name : List ℕ) → position_or_len (λ f. bytes_eq f name) fs < length fs → name_at fs (position_or_len (λ f. bytes_eq f name) fs) ≡ name
 name_of_place [] name l = absurd (omega arith)
-name_of_place (f ∷ fs) name l = step (same_bytes f name) refl l (name_of_place fs name)
+name_of_place (f ∷ fs) name l = step (bytes_eq f name) refl l (name_of_place fs name)
   where
-    step : (b : Bool) → same_bytes f name ≡ b → cond (not b) (1 + position_or_len (λ f. same_bytes f name) fs) 0 < suc (length fs)
-        → (position_or_len (λ f. same_bytes f name) fs < length fs → name_at fs (position_or_len (λ f. same_bytes f name) fs) ≡ name)
-        → name_at (f ∷ fs) (cond (not b) (1 + position_or_len (λ f. same_bytes f name) fs) 0) ≡ name
-    step true k g more = same_bytes_same f name k
+    step : (b : Bool) → bytes_eq f name ≡ b → cond (not b) (1 + position_or_len (λ f. bytes_eq f name) fs) 0 < suc (length fs)
+        → (position_or_len (λ f. bytes_eq f name) fs < length fs → name_at fs (position_or_len (λ f. bytes_eq f name) fs) ≡ name)
+        → name_at (f ∷ fs) (cond (not b) (1 + position_or_len (λ f. bytes_eq f name) fs) 0) ≡ name
+    step true k g more = (bytes_eq-Decides f name).0 k
     step false k g more =
-        subst (λ m. name_at (f ∷ fs) m ≡ name) (sym (one-add (position_or_len (λ f. same_bytes f name) fs))) (more (omega arith))
+        subst (λ m. name_at (f ∷ fs) m ≡ name) (sym (one-add (position_or_len (λ f. bytes_eq f name) fs))) (more (omega arith))
 
 pub record IsFunction (fs : List (List ℕ)) (name : List ℕ) (i : ℕ) : Type 0 where
   pub name_is : name ≡ name_at fs i
@@ -201,7 +205,7 @@ pub record IsFunction (fs : List (List ℕ)) (name : List ℕ) (i : ℕ) : Type 
   pub small : IsNumber i
 
 pub function_from : (fs : List (List ℕ)) (name : List ℕ) (i : ℕ) → function_in fs name ≡ Some i → IsFunction fs name i
-function_from fs name i = at_place (position_or_len (λ f. same_bytes f name) fs) (name_of_place fs name)
+function_from fs name i = at_place (position_or_len (λ f. bytes_eq f name) fs) (name_of_place fs name)
   where
     small : (n : ℕ) → name_at fs n ≡ name → n < length fs → (b : Bool) → nat_lt n (2 ^ 32) ≡ b → cond b (Some n) None ≡ Some i → IsFunction fs name i
     small n same l false k e = cc
@@ -249,8 +253,8 @@ head_from fs text head = by_cut (cut 32 text) refl
         let number = number_from q.behind arg a in
         let whole : ThreadHead = record { handle = h; function = f; arg = arg } in
         let same : whole ≡ head = cc in
-        let behind : p.behind ≡ name_at fs f ++ 32 ∷ decimal arg = second.parts ∙ (ap (λ l. l ++ 32 ∷ q.behind) function.name_is ∙ ap (λ l. name_at fs f ++ 32 ∷ l) number.text) in
-        let spelled : text ≡ decimal h ++ 32 ∷ (name_at fs f ++ 32 ∷ decimal arg) = first.parts ∙ (ap (λ l. l ++ 32 ∷ p.behind) handle.text ∙ ap (λ l. decimal h ++ 32 ∷ l) behind) in
+        let behind : p.behind ≡ name_at fs f ++ 32 ∷ decimal arg = second.parts ∙ (ap (λ l. l ++ 32 ∷ q.behind) function.name_is ∙ ap (λ l. name_at fs f ++ 32 ∷ l) number.digits) in
+        let spelled : text ≡ decimal h ++ 32 ∷ (name_at fs f ++ 32 ∷ decimal arg) = first.parts ∙ (ap (λ l. l ++ 32 ∷ p.behind) handle.digits ∙ ap (λ l. decimal h ++ 32 ∷ l) behind) in
         subst (IsHeadText fs text) same (record { spelled = spelled; handle = handle.small; function = function.small; arg = number.small; known = function.known })
 
     by_function : (p : Cut) → cut 32 text ≡ Some p → (q : Cut) → cut 32 p.behind ≡ Some q → (h : ℕ) → number_in p.front ≡ Some h → (o : Option ℕ) → function_in fs q.front ≡ o

@@ -13,11 +13,15 @@ use Rattle.witness_text.specs.declared.reading.Stage.TheVariants.{Head, Between,
 use Rattle.witness_text.specs.declared.reading.Reading.{Reading}
 use Rattle.witness_text.specs.Witness.{co_line, co_lines, first_line, last_line, name_at, rf_line, script_line, some_name, thread_line, thread_lines}
 use Rattle.witness_text.specs.Spelling.{HasEventNumbers, HasPairNumbers, HasThreadNumbers, handle_before, is_action, reader_before}
-use Rattle.witness_text.specs.Lines.{given, same_bytes, strip, head_in, source_in, order_in, script_in}
+use Rattle.line_text.specs.Words.{given, strip}
+use Rattle.witness_text.specs.Lines.{head_in, source_in, order_in, script_in}
+use Rattle.std.specs.Prelude.{bytes_eq}
 use Rattle.witness_text.specs.Machine.{begun, between, by_order, by_source, by_thread, is_empty, last_before, may_follow, on_end, on_head, on_order, on_script, on_source, on_thread, part_of, step, step_at, with_order, with_pair, with_script}
-use Rattle.witness_text.proofs.Bytes.{same_bytes_same, strip_from}
+use Rattle.line_text.proofs.Bytes.{strip_from}
+use Rattle.std.proofs.lemmas.Slice.Eq.{bytes_eq-Decides}
 use Rattle.witness_text.proofs.Spelled.{head_from, order_from, script_from, source_from}
-use Rattle.witness_text.proofs.Rising.{all_push, rises_push}
+use Rattle.witness_text.proofs.Rising.{rises_push}
+use Rattle.line_text.proofs.Texts.{all_push}
 use Rattle.witness_text.proofs.Holding.{Holds, co_lines_append, is_empty_nil, state, written_at}
 
 flat_push : {A B : Type 0} (f : A → List B) (xs : List A) (y : A) → flat_map f (xs ++ y ∷ []) ≡ flat_map f xs ++ f y
@@ -30,13 +34,13 @@ map_push f (x ∷ xs) y = ap (λ l. f x ∷ l) (map_push f xs y)
 
 -- the first line
 head_holds : (fs cs lines : List (List ℕ)) (c : Candidate) (line : List ℕ) (s : Reading) → Holds fs cs lines (state Head c) → on_head c line ≡ Some s → Holds fs cs (lines ++ line ∷ []) s
-head_holds fs cs lines c line s h = split (same_bytes line first_line) refl
+head_holds fs cs lines c line s h = split (bytes_eq line first_line) refl
   where
-    split : (b : Bool) → same_bytes line first_line ≡ b → cond b (Some (state Between c)) None ≡ Some s → Holds fs cs (lines ++ line ∷ []) s
+    split : (b : Bool) → bytes_eq line first_line ≡ b → cond b (Some (state Between c)) None ≡ Some s → Holds fs cs (lines ++ line ∷ []) s
     split false k e = cc
     split true k e =
         let same : state Between c ≡ s = cc in
-        let text = same_bytes_same line first_line k in
+        let text = (bytes_eq-Decides line first_line).0 k in
         let all : lines ++ line ∷ [] ≡ first_line ∷ [] = ap (λ l. l ++ line ∷ []) h.lines_are ∙ ap (λ l. l ∷ []) text in
         subst (Holds fs cs (lines ++ line ∷ [])) same (record { part = h.part; stage = tt; lines_are = all ∙ ap (written_at fs cs Between) (sym h.stage) })
 
@@ -204,14 +208,14 @@ order_holds fs cs lines c text line s h front = by_cell (slice_get cs (length c.
 
 -- the last line
 end_holds : (fs cs lines : List (List ℕ)) (c : Candidate) (line : List ℕ) (s : Reading) → Holds fs cs lines (state Between c) → on_end cs c line ≡ Some s → Holds fs cs (lines ++ line ∷ []) s
-end_holds fs cs lines c line s h = split (same_bytes line last_line && eqb (length c.co) (length cs)) refl
+end_holds fs cs lines c line s h = split (bytes_eq line last_line && eqb (length c.co) (length cs)) refl
   where
-    split : (b : Bool) → (same_bytes line last_line && eqb (length c.co) (length cs)) ≡ b → cond b (Some (state End c)) None ≡ Some s → Holds fs cs (lines ++ line ∷ []) s
+    split : (b : Bool) → (bytes_eq line last_line && eqb (length c.co) (length cs)) ≡ b → cond b (Some (state End c)) None ≡ Some s → Holds fs cs (lines ++ line ∷ []) s
     split false k e = cc
     split true k e =
         let same : state End c ≡ s = cc in
-        let p = and_parts (same_bytes line last_line) (eqb (length c.co) (length cs)) k in
-        let text = same_bytes_same line last_line p.0 in
+        let p = and_parts (bytes_eq line last_line) (eqb (length c.co) (length cs)) k in
+        let text = (bytes_eq-Decides line last_line).0 p.0 in
         let threads = flat_map (thread_lines fs) c.threads in
         let pairs = map rf_line c.rf in
         let orders = co_lines cs 0 c.co in

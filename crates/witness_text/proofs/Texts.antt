@@ -1,22 +1,11 @@
 -- Texts that are written part by part.
-use Rattle.std.proofs.Common.{◌≡◌, ◌+◌, ◌<◌, ◌≤◌, ℕ, List, [], ◌∷◌, ◌++◌, Result, Ok, Err, add-one, append_assoc, drop, drop-cons, get_or, length, refl, ap, subst, sym, ◌∙◌}
+use Rattle.std.proofs.Common.{◌≡◌, ◌+◌, ◌<◌, ◌≤◌, ℕ, List, [], ◌∷◌, ◌++◌, add-one, append_assoc, drop, drop-cons, get_or, length, refl, ap, subst, sym, ◌∙◌}
 use Rattle.std.specs.List.{AllByRecursion}
 use Rattle.std.proofs.Math.ListN.{drop_of_length-le}
-use Rattle.std.specs.Prelude.{OnOk, codes}
-use Rattle.witness_text.specs.Witness.{text_of, first_line, last_line}
-
--- what follows from an Ok
-pub on_ok : {T E : Type 0} (r : Result T E) (P Q : Type 0) → (P → Q) → OnOk r P → OnOk r Q
-on_ok (Ok v) P Q f p = f p
-on_ok (Err e) P Q f p = p
-
--- one more part behind what was there with the parts before
-pub then_part : {x y z : List ℕ} (part : List ℕ) → x ≡ y → z ≡ x ++ part → z ≡ y ++ part
-then_part part e f = f ∙ ap (λ l. l ++ part) e
-
-pub text_of_append : (a b : List (List ℕ)) → text_of (a ++ b) ≡ text_of a ++ text_of b
-text_of_append [] b = refl
-text_of_append (l ∷ a) b = ap (λ t. (l ++ 10 ∷ []) ++ t) (text_of_append a b) ∙ sym (append_assoc (l ++ 10 ∷ []) (text_of a) (text_of b))
+use Rattle.std.specs.Prelude.{codes}
+use Rattle.line_text.specs.Lines.{text_of}
+use Rattle.line_text.proofs.Texts.{text_of_append}
+use Rattle.witness_text.specs.Witness.{first_line, last_line}
 
 -- the whole text behind what was there
 pub whole_text : (o : List ℕ) (a b c : List (List ℕ))

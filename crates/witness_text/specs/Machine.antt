@@ -1,5 +1,5 @@
 -- The reader as a machine over lines: what was read, and one step for each line.
-use Rattle.std.specs.Prelude.{ℕ, ◌-◌, Bool, true, false, ◌&&◌, ◌==◌, if◌then◌else◌, List, [], ◌∷◌, ◌++◌, length, slice_get, codes, Option, Some, None}
+use Rattle.std.specs.Prelude.{ℕ, ◌-◌, Bool, true, false, ◌&&◌, ◌==◌, if◌then◌else◌, List, [], ◌∷◌, ◌++◌, length, slice_get, codes, Option, Some, None, bytes_eq}
 use Rattle.axiom_model.specs.declared.Event.{Event}
 use Rattle.axiom_model.specs.declared.RfPair.{RfPair}
 use Rattle.axiom_model.specs.declared.ThreadPart.{ThreadPart}
@@ -10,7 +10,8 @@ use Rattle.witness_text.specs.declared.reading.Stage.TheVariants.{Head, Between,
 use Rattle.witness_text.specs.declared.reading.Reading.{Reading}
 use Rattle.witness_text.specs.Witness.{first_line, last_line}
 use Rattle.witness_text.specs.Spelling.{handle_before, reader_before}
-use Rattle.witness_text.specs.Lines.{given, same_bytes, strip, head_in, source_in, order_in, script_in}
+use Rattle.line_text.specs.Words.{given, strip}
+use Rattle.witness_text.specs.Lines.{head_in, source_in, order_in, script_in}
 
 abbrev pub no_candidate : Candidate
 no_candidate = record { threads = []; rf = []; co = [] }
@@ -56,7 +57,7 @@ on_order cells c text = given (slice_get cells (length c.co)) (λ cell. given (o
 
 -- the last line, behind the orders of all cells
 abbrev pub on_end : List (List ℕ) → Candidate → List ℕ → Option Reading
-on_end cells c line = if same_bytes line last_line && (length c.co == length cells) then Some (record { stage = End; candidate = c }) else None
+on_end cells c line = if bytes_eq line last_line && (length c.co == length cells) then Some (record { stage = End; candidate = c }) else None
 
 abbrev pub by_order : List (List ℕ) → Candidate → List ℕ → Option (List ℕ) → Option Reading
 by_order cells c line (Some text) = on_order cells c text
@@ -74,7 +75,7 @@ abbrev pub between : List (List ℕ) → List (List ℕ) → Candidate → List 
 between functions cells c line = by_thread functions cells c line (strip (codes "thread ") line)
 
 abbrev pub on_head : Candidate → List ℕ → Option Reading
-on_head c line = if same_bytes line first_line then Some (record { stage = Between; candidate = c }) else None
+on_head c line = if bytes_eq line first_line then Some (record { stage = Between; candidate = c }) else None
 
 -- the script of the thread that has begun
 abbrev pub with_script : Candidate → ThreadHead → List ℕ → Option Reading
@@ -91,11 +92,6 @@ step_at functions cells End c line = None
 
 abbrev pub step : List (List ℕ) → List (List ℕ) → Reading → List ℕ → Option Reading
 step functions cells r line = step_at functions cells r.stage r.candidate line
-
--- all lines in turn
-abbrev pub run : List (List ℕ) → List (List ℕ) → Reading → List (List ℕ) → Option Reading
-run functions cells r [] = Some r
-run functions cells r (line ∷ lines) = given (step functions cells r line) (λ s. run functions cells s lines)
 
 -- what was read, where the last line was read and nothing stands behind it
 abbrev pub ended_at : Stage → Candidate → List ℕ → Option Candidate

@@ -1,13 +1,14 @@
 -- Which candidates have a text, which text spells which, and where a text that spells none goes wrong.
-use Rattle.std.specs.Prelude.{◌≡◌, ℕ, suc, ◌^◌, ◌<◌, min, Bool, true, false, nat_lt, ◌&&◌, ◌||◌, ◌==◌, List, [], ◌∷◌, ◌++◌, length}
+use Rattle.std.specs.Prelude.{◌≡◌, ℕ, ◌^◌, ◌<◌, Bool, true, false, nat_lt, ◌&&◌, ◌||◌, ◌==◌, List, [], ◌∷◌, length}
 use Rattle.std.specs.List.{AllByRecursion}
 use Rattle.axiom_model.specs.declared.Event.{Event}
 use Rattle.axiom_model.specs.declared.Event.TheVariants.{Initial, At}
 use Rattle.axiom_model.specs.declared.RfPair.{RfPair}
 use Rattle.axiom_model.specs.declared.ThreadPart.{ThreadPart}
 use Rattle.axiom_model.specs.declared.Candidate.{Candidate}
-use Rattle.c_check.specs.PlainNames.{HasPlainNames, lacks}
-use Rattle.witness_text.specs.Witness.{text_of, witness_text}
+use Rattle.c_check.specs.PlainNames.{HasPlainNames}
+use Rattle.line_text.specs.Lines.{NoProperPrefix, OneValue}
+use Rattle.witness_text.specs.Witness.{witness_text}
 
 -- The numbers of a candidate have 32 bits.
 abbrev pub IsNumber : ℕ → Type 0
@@ -71,36 +72,10 @@ pub record Spells (functions cells : List (List ℕ)) (c : Candidate) (text : Li
   pub spellable : IsSpellable functions cells c
   pub spelled : text ≡ witness_text functions cells c
 
--- some spelling begins with these lines
-abbrev pub Begins : List (List ℕ) → List (List ℕ) → List (List ℕ) → Type 0
-Begins functions cells lines = (c : Candidate) × (more : List ℕ) × Spells functions cells c (text_of lines ++ more)
-
--- The longest run of whole lines at the front of the text with which some spelling begins.
-pub record IsLongestRun (functions cells : List (List ℕ)) (text : List ℕ) (lines : List (List ℕ)) (rest : List ℕ) : Type 0 where
-  pub all : text ≡ text_of lines ++ rest
-  pub whole : AllByRecursion (λ line. lacks 10 line ≡ true) lines
-  pub begins : Begins functions cells lines
-  pub ends : (line more : List ℕ) → lacks 10 line ≡ true → rest ≡ line ++ 10 ∷ more → Begins functions cells (lines ++ line ∷ []) → ⊥
-
--- a number that needs more than 32 bits is told as the greatest one
-abbrev pub told : ℕ → ℕ
-told n = min n 4294967295
-
--- The text spells no candidate, and this is the number of the line behind the longest run, from 1.
-pub record Refuses (functions cells : List (List ℕ)) (text : List ℕ) (line : ℕ) : Type 0 where
-  pub none : (c : Candidate) → Spells functions cells c text → ⊥
-  pub lines : List (List ℕ)
-  pub rest : List ℕ
-  pub run : IsLongestRun functions cells text lines rest
-  pub number : line ≡ told (suc (length lines))
-
 -- a text spells at most one candidate
 abbrev pub OneCandidate : Type 0
-OneCandidate =
-    (functions cells : List (List ℕ)) (text : List ℕ) (c d : Candidate) → HasPlainNames functions cells → Spells functions cells c text → Spells functions cells d text → c ≡ d
+OneCandidate = (functions cells : List (List ℕ)) → HasPlainNames functions cells → OneValue (Spells functions cells)
 
 -- no spelling is a proper prefix of another
-abbrev pub NoProperPrefix : Type 0
-NoProperPrefix =
-    (functions cells : List (List ℕ)) (text more : List ℕ) (c d : Candidate) → HasPlainNames functions cells → Spells functions cells c text → Spells functions cells d (text ++ more)
-    → more ≡ []
+abbrev pub NoPrefix : Type 0
+NoPrefix = (functions cells : List (List ℕ)) → HasPlainNames functions cells → NoProperPrefix (Spells functions cells)

@@ -1,15 +1,13 @@
 -- The text of a candidate: lines of words, with the names of functions and cells in place of their numbers. A line feed is 10,
 -- a blank 32, a dot 46.
 use Rattle.std.specs.Prelude.{ℕ, ◌+◌, List, [], ◌∷◌, ◌++◌, map, slice_get, codes, decimal, flat_map, Option, Some, None}
+use Rattle.line_text.specs.Lines.{text_of}
+use Rattle.line_text.specs.Words.{shown}
 use Rattle.axiom_model.specs.declared.Event.{Event}
 use Rattle.axiom_model.specs.declared.Event.TheVariants.{Initial, At}
 use Rattle.axiom_model.specs.declared.RfPair.{RfPair}
 use Rattle.axiom_model.specs.declared.ThreadPart.{ThreadPart}
 use Rattle.axiom_model.specs.declared.Candidate.{Candidate}
-
--- lines as bytes: a line feed ends each
-abbrev pub text_of : List (List ℕ) → List ℕ
-text_of lines = flat_map (λ line. line ++ 10 ∷ []) lines
 
 -- the name with this number
 abbrev pub some_name : Option (List ℕ) → List ℕ
@@ -25,10 +23,10 @@ event_text (At h i) = decimal h ++ 46 ∷ decimal i
 
 -- each behind one blank
 abbrev pub numbers_text : List ℕ → List ℕ
-numbers_text vs = flat_map (λ v. 32 ∷ decimal v) vs
+numbers_text vs = shown decimal vs
 
 abbrev pub events_text : List Event → List ℕ
-events_text es = flat_map (λ e. 32 ∷ event_text e) es
+events_text es = shown event_text es
 
 -- `thread H NAME ARG`
 abbrev pub thread_line : List (List ℕ) → ℕ → ℕ → ℕ → List ℕ

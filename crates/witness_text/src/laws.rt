@@ -1,5 +1,5 @@
 // Laws of the text.
-ghost use Rattle.witness_text.specs.Spelling.{NoProperPrefix, OneCandidate};
+ghost use Rattle.witness_text.specs.Spelling.{NoPrefix, OneCandidate};
 
 /// A text spells at most one candidate.
 pub fn one_candidate()
@@ -8,5 +8,5 @@ pub fn one_candidate()
 
 /// No spelling is a proper prefix of another.
 pub fn no_proper_prefix()
-    ensures { NoProperPrefix }
+    ensures { NoPrefix }
 {}

@@ -16,9 +16,8 @@ mod lines;
 mod printing;
 mod reading;
 mod text;
-mod words;
 
 pub use laws::{no_proper_prefix, one_candidate};
 pub use printing::print_witness;
 pub use reading::{WitnessFault, read_witness};
-pub use text::{put, put_event, put_events, put_number};
+pub use text::{put_event, put_events};

@@ -1,11 +1,12 @@
 // What stands behind the first word of a line.
-ghost use Rattle.std.specs.Prelude.{◌≡◌, IfOk};
+ghost use Rattle.std.specs.Prelude.{◌≡◌, IfOk, bytes_eq};
 ghost use Rattle.std.specs.List.{position};
-ghost use Rattle.witness_text.specs.Lines.{event_in, function_in, head_in, number_in, order_in, same_bytes, script_in, source_in, words_in};
+ghost use Rattle.line_text.specs.Words.{number_in, words_in};
+ghost use Rattle.witness_text.specs.Lines.{action_in, event_in, function_in, head_in, order_in, script_in, source_in};
 
-use crate::words::{action, cut, event, next_word, number};
 use axiom_model::{Event, RfPair};
 use dg_base::{Bytes, List, OutOfMemory};
+use line_text::{cut, next_word, number};
 use std::alloc::Global;
 
 /// What a thread's first line says.
@@ -19,9 +20,30 @@ pub struct ThreadHead {
     pub arg: u32,
 }
 
+// `H.I`, the action with this index of the thread with this handle.
+fn action(text: &[u8]) -> Option<Event>
+    ensures { result ≡ action_in text.now }
+{
+    let (handle, index) = cut(b'.', text)?;
+    let handle = number(handle)?;
+    let index = number(index)?;
+    Some(Event::At { handle, index })
+}
+
+// `init`, or `H.I`.
+fn event(text: &[u8]) -> Option<Event>
+    ensures { result ≡ event_in text.now }
+{
+    if text == b"init".as_slice() {
+        Some(Event::Initial)
+    } else {
+        action(text)
+    }
+}
+
 // The place of the first function with this name.
 fn place_of(functions: &[Bytes], name: &[u8]) -> Option<usize>
-    ensures { result ≡ position (λ f. same_bytes f name.now) functions.now }
+    ensures { result ≡ position (λ f. bytes_eq f name.now) functions.now }
 {
     functions.iter().position(|f| f.as_slice() == name)
 }

@@ -3,12 +3,14 @@ ghost use Rattle.std.specs.Prelude.{◌≡◌, ◌++◌, ◌∷◌, [], List, �
 ghost use Rattle.c_check.specs.PlainNames.{cell_names};
 ghost use Rattle.std.specs.List.{AllByRecursion};
 ghost use Rattle.witness_text.specs.Spelling.{HasEventNumbers, HasNumbers, HasPairNumbers, HasThreadNumbers, IsNumber, IsSpellable, Spells};
-ghost use Rattle.witness_text.specs.Witness.{co_line, co_lines, name_at, numbers_text, rf_line, script_line, text_of, thread_line, thread_lines, witness_text};
+ghost use Rattle.line_text.specs.Lines.{text_of};
+ghost use Rattle.witness_text.specs.Witness.{co_line, co_lines, name_at, numbers_text, rf_line, script_line, thread_line, thread_lines, witness_text};
 
-use crate::text::{put, put_event, put_events, put_number};
+use crate::text::{put_event, put_events};
 use axiom_model::{Candidate, Event, RfPair, ThreadPart};
 use c_check::{CellInfo, Checked};
 use dg_base::{Bytes, List, OutOfMemory};
+use line_text::{put, put_number};
 use std::alloc::Global;
 
 fn put_numbers(out: &mut Vec<u8>, numbers: &[u32]) -> Result<(), OutOfMemory>

@@ -7,10 +7,10 @@ ghost use Rattle.witness_text.specs.Faults.{IsFaultOf};
 ghost use Rattle.witness_text.specs.declared.reading.WitnessFault.TheVariants.{OutOfMemory};
 
 use crate::lines::{ThreadHead, head, order, script, source};
-use crate::words::cut;
 use axiom_model::{Candidate, Event, RfPair, ThreadPart};
 use c_check::{CellInfo, Checked};
 use dg_base::{List, OutOfMemory};
+use line_text::cut;
 use std::alloc::{AllocError, Global};
 
 /// Why a text was not read.

@@ -1,28 +1,12 @@
 // Parts of texts, appended to a buffer.
-ghost use Rattle.std.specs.Prelude.{◌≡◌, ◌++◌, OnOk, decimal};
+ghost use Rattle.std.specs.Prelude.{◌≡◌, ◌++◌, OnOk};
 ghost use Rattle.std.specs.List.{AllByRecursion};
 ghost use Rattle.witness_text.specs.Spelling.{HasEventNumbers};
 ghost use Rattle.witness_text.specs.Witness.{event_text, events_text};
 
 use axiom_model::Event;
 use dg_base::OutOfMemory;
-use itoa::Buffer;
-
-/// Appends the bytes.
-pub fn put(out: &mut Vec<u8>, bytes: &[u8]) -> Result<(), OutOfMemory>
-    ensures { OnOk result (out.new.items ≡ out.old.items ++ bytes.now) }
-{
-    out.extend_from_slice(bytes)?;
-    Ok(())
-}
-
-/// Appends the number, in decimal digits.
-pub fn put_number(out: &mut Vec<u8>, n: u32) -> Result<(), OutOfMemory>
-    ensures { OnOk result (out.new.items ≡ out.old.items ++ decimal n) }
-{
-    let mut buffer = Buffer::new();
-    put(out, buffer.format(n).as_bytes())
-}
+use line_text::{put, put_number};
 
 /// Appends `init` or `H.I`.
 pub fn put_event(out: &mut Vec<u8>, event: Event) -> Result<(), OutOfMemory>

@@ -1,6 +1,7 @@
 use Rattle.std.proofs.Common.{◌≡◌, ◌++◌, ◌∷◌, [], Some, sym, ap, ◌∙◌}
-use Rattle.witness_text.specs.Lines.{Cut, event_in, next_word, words_in}
-use Rattle.witness_text.proofs.Worded.{ahead, ahead_step}
+use Rattle.line_text.specs.Words.{Cut, next_word, words_in}
+use Rattle.witness_text.specs.Lines.{event_in}
+use Rattle.line_text.proofs.Worded.{ahead, ahead_step}
 use Rattle.witness_text.proofs.lines.events.Goals as goal
 
 pub loop-word-preserved : goal.loop-word-preserved

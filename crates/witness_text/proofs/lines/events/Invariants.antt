@@ -1,6 +1,7 @@
 use Rattle.std.proofs.Common.{◌≡◌, length}
-use Rattle.witness_text.specs.Lines.{event_in, words_in}
-use Rattle.witness_text.proofs.Worded.{ahead}
+use Rattle.line_text.specs.Words.{words_in}
+use Rattle.witness_text.specs.Lines.{event_in}
+use Rattle.line_text.proofs.Worded.{ahead}
 use Rattle.witness_text.proofs.lines.events.Given as goal
 
 -- what was read, with what the rest holds, is what the text holds

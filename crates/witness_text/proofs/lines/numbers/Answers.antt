@@ -1,6 +1,6 @@
 use Rattle.std.proofs.Common.{◌≡◌, ◌++◌, ◌∷◌, [], Some, sym, ap, ◌∙◌}
-use Rattle.witness_text.specs.Lines.{Cut, number_in, next_word, words_in}
-use Rattle.witness_text.proofs.Worded.{ahead, ahead_step}
+use Rattle.line_text.specs.Words.{Cut, number_in, next_word, words_in}
+use Rattle.line_text.proofs.Worded.{ahead, ahead_step}
 use Rattle.witness_text.proofs.lines.numbers.Goals as goal
 
 pub loop-word-preserved : goal.loop-word-preserved

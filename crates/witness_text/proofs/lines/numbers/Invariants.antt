@@ -1,6 +1,6 @@
 use Rattle.std.proofs.Common.{◌≡◌, length}
-use Rattle.witness_text.specs.Lines.{number_in, words_in}
-use Rattle.witness_text.proofs.Worded.{ahead}
+use Rattle.line_text.specs.Words.{number_in, words_in}
+use Rattle.line_text.proofs.Worded.{ahead}
 use Rattle.witness_text.proofs.lines.numbers.Given as goal
 
 -- what was read, with what the rest holds, is what the text holds

@@ -2,7 +2,8 @@ use Rattle.std.proofs.Common.{◌≡◌, ◌++◌, drop}
 use Rattle.std.specs.List.{AllByRecursion}
 use Rattle.c_check.specs.PlainNames.{cell_names}
 use Rattle.witness_text.specs.Spelling.{HasEventNumbers}
-use Rattle.witness_text.specs.Witness.{co_lines, text_of}
+use Rattle.line_text.specs.Lines.{text_of}
+use Rattle.witness_text.specs.Witness.{co_lines}
 use Rattle.witness_text.proofs.printing.put_orders.Given as goal
 
 -- what is written, with the lines of the cells to come, is what was there with all lines; and if the orders to come have numbers, all have

@@ -1,7 +1,8 @@
 use Rattle.std.proofs.Common.{◌≡◌, ◌++◌, drop, map}
 use Rattle.std.specs.List.{AllByRecursion}
 use Rattle.witness_text.specs.Spelling.{HasPairNumbers}
-use Rattle.witness_text.specs.Witness.{rf_line, text_of}
+use Rattle.line_text.specs.Lines.{text_of}
+use Rattle.witness_text.specs.Witness.{rf_line}
 use Rattle.witness_text.proofs.printing.put_sources.Given as goal
 
 -- what is written, with the lines to come, is what was there with all lines; and if the pairs to come have numbers, all have

@@ -2,7 +2,8 @@ use Rattle.std.proofs.Common.{◌≡◌, ◌++◌, drop}
 use Rattle.std.specs.Prelude.{flat_map}
 use Rattle.std.specs.List.{AllByRecursion}
 use Rattle.witness_text.specs.Spelling.{HasThreadNumbers}
-use Rattle.witness_text.specs.Witness.{text_of, thread_lines}
+use Rattle.line_text.specs.Lines.{text_of}
+use Rattle.witness_text.specs.Witness.{thread_lines}
 use Rattle.witness_text.proofs.printing.put_threads.Given as goal
 
 -- what is written, with the lines to come, is what was there with all lines; and if the threads to come have numbers, all have
