@@ -14,6 +14,7 @@ pub mod Reached
 pub mod Joint
 pub mod JointMeaning
 pub mod JointBodies
+pub mod Wording
 pub mod Told
 pub mod Framing
 pub mod Resuming
