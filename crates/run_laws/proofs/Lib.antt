@@ -15,6 +15,7 @@ pub mod Joint
 pub mod JointMeaning
 pub mod JointBodies
 pub mod Wording
+pub mod WordRuns
 pub mod Told
 pub mod Framing
 pub mod Resuming
