@@ -2,17 +2,18 @@
 -- program, of a thread with one handle, for two bounds on loops. A property of one run is a relation that looks at the left side.
 -- A relation may have a part that holds of steps on any values, and a part that holds on those that are asked for: it is told
 -- what is known of the values at hand, and each step is related whatever is known (`Premised`). Most have one part (`Relation`).
-use Rattle.std.proofs.Common.{◌≡◌, ℕ, ◌≤◌, List, [], ◌∷◌, ◌++◌, Option, Bool, true, false, ◌⊎◌, ⊎_elim, inl, inr, take}
+use Rattle.std.proofs.Common.{◌≡◌, ℕ, ◌≤◌, List, [], ◌∷◌, ◌++◌, Option, Some, Bool, true, false, ◌⊎◌, ⊎_elim, inl, inr, take}
 use Rattle.std.specs.Prelude.{cond, replicate}
-use Rattle.std.specs.List.{Contains}
-use Rattle.std.proofs.lemmas.List.Elements.{Contains-append_left, Contains-append_right}
+use Rattle.std.specs.List.{AllByRecursion}
 use Rattle.dg_base.specs.declared.Place.{Place}
 use Rattle.dg_base.specs.declared.operators.Op.{Op}
 use Rattle.dg_base.specs.Values.{value_of}
 use Rattle.axiom_model.specs.declared.Action.TheVariants.{Fence}
 use Rattle.c_tree.specs.declared.program.Param.{Param}
 use Rattle.c_tree.specs.declared.program.Function.{Function}
-use Rattle.c_rules.specs.Names.{Name}
+use Rattle.c_rules.specs.declared.builtin.Builtin.TheVariants as b
+use Rattle.c_rules.specs.Names.{Name, builtin_named}
+use Rattle.c_check.proofs.PlainNames.{all_front, all_back}
 use Rattle.run_model.specs.declared.state.Flow.{Flow}
 use Rattle.run_model.specs.declared.state.Flow.TheVariants.{Returned}
 use Rattle.run_model.specs.declared.state.Local.{Local}
@@ -23,7 +24,8 @@ use Rattle.run_model.specs.declared.state.Slot.TheVariants.{Own}
 use Rattle.run_model.specs.Steps.{Outcome, Goes, Halts, Step, ◌>>=◌, ◌>>◌, pure, nothing, look, change, make, take_number, begin_section, end_section, stop, fail}
 use Rattle.run_model.specs.Cells.{read, write, slot}
 use Rattle.run_model.specs.Calls.{Setting, no_other, spend, function_in, lock_cell, unlock_cell, exit_thread, any_bool, create, join}
-use Rattle.run_model.specs.Threads.{parameters}
+use Rattle.run_model.specs.Threads.{parameters, in_section}
+use Rattle.run_laws.specs.Leaves.{Leaf, Value, Called}
 
 -- ---- two settings
 
@@ -45,18 +47,19 @@ two g = record { shared = g.shared; functions = g.functions; turns = g.other_tur
 
 -- ---- values
 
--- what holds of each value, of each cell that is found, and of the locals
+-- what holds of each value, of each cell that is found, of the locals, and of each name that is called
 pub record Values : Type 1 where
   pub word : ℕ → Type 0
   pub cell : Slot → Type 0
   pub locals : List Local → Type 0
+  pub calls : Name → Type 0
 
 abbrev pub anything : {A : Type 0} → A → Type 0
 anything a = Unit {0}
 
 -- where nothing is asked
 abbrev pub no_values : Values
-no_values = record { word = anything; cell = anything; locals = anything }
+no_values = record { word = anything; cell = anything; locals = anything; calls = anything }
 
 abbrev pub Words : Values → List ℕ → Type 0
 Words v [] = Unit {0}
@@ -67,15 +70,24 @@ abbrev pub Leaves : Values → Flow → Type 0
 Leaves v (Returned x) = v.word x
 Leaves v _ = Unit {0}
 
--- the constants are such values
-abbrev pub Known : Values → List ℕ → Type 0
-Known v xs = (x : ℕ) → Contains xs x → v.word x
+-- the constants are such values, and the called names are such
+abbrev pub AtLeaf : Values → Leaf → Type 0
+AtLeaf v (Value x) = v.word x
+AtLeaf v (Called n) = v.calls n
 
-pub known_left : (v : Values) (xs ys : List ℕ) → Known v (xs ++ ys) → Known v xs
-known_left v xs ys h x c = h x (Contains-append_left xs ys x c)
+abbrev pub Known : Values → List Leaf → Type 0
+Known v xs = AllByRecursion (AtLeaf v) xs
 
-pub known_right : (v : Values) (xs ys : List ℕ) → Known v (xs ++ ys) → Known v ys
-known_right v xs ys h x c = h x (Contains-append_right xs ys x c)
+pub known_left : (v : Values) (xs ys : List Leaf) → Known v (xs ++ ys) → Known v xs
+known_left v xs ys h = all_front (AtLeaf v) xs ys h
+
+pub known_right : (v : Values) (xs ys : List Leaf) → Known v (xs ++ ys) → Known v ys
+known_right v xs ys h = all_back (AtLeaf v) xs ys h
+
+pub nothing_known : (xs : List Leaf) → Known no_values xs
+nothing_known [] = tt
+nothing_known (Value x ∷ xs) = (tt, nothing_known xs)
+nothing_known (Called n ∷ xs) = (tt, nothing_known xs)
 
 pub words-append : (v : Values) (xs ys : List ℕ) → Words v xs → Words v ys → Words v (xs ++ ys)
 words-append v [] ys h i = i
@@ -162,8 +174,9 @@ pub record Carries (g : Two) (v : Values) (R : Premised) : Type 1 where
   pub of_own : (C : Type 0) (i j x : ℕ) → (C → v.word x) → R C (Unit {0}) anything (write (Own i j) x) (write (Own i j) x)
   pub of_lock : (C : Type 0) (c : Slot) → (C → v.cell c) → R C (Unit {0}) anything (lock_cell c) (lock_cell c)
   pub of_unlock : (C : Type 0) (c : Slot) → (C → v.cell c) → R C (Unit {0}) anything (unlock_cell c) (unlock_cell c)
-  pub of_begin : R (Unit {0}) (Unit {0}) anything begin_section begin_section
-  pub of_end : R (Unit {0}) (Unit {0}) anything end_section end_section
+  pub of_begin : (n : Name) → v.calls n → builtin_named n ≡ Some b.Begin → R (Unit {0}) (Unit {0}) anything begin_section begin_section
+  pub of_end : (n : Name) → v.calls n → builtin_named n ≡ Some b.Finish → R (Unit {0}) (Unit {0}) anything end_section end_section
+  pub of_section : (C : Type 0) (m n : Step ℕ) → R C ℕ v.word m n → R C ℕ v.word (in_section m) (in_section n)
   pub of_exit : R (Unit {0}) ℕ v.word exit_thread exit_thread
   pub of_create : (C : Type 0) (c : Slot) (n : Option Name) (x : ℕ) → (C → v.cell c) → (C → v.word x) → R C ℕ v.word (create (one g) c (function_in (one g) n) x) (create (two g) c (function_in (two g) n) x)
   pub of_join : (C : Type 0) (h : ℕ) → (C → v.word h) → R C ℕ v.word (join h) (join h)
@@ -192,8 +205,12 @@ carries g v R k = record {
   of_own = λ C i j x h w. k.of_own i j x (h w);
   of_lock = λ C c h w. k.of_lock c (h w);
   of_unlock = λ C c h w. k.of_unlock c (h w);
-  of_begin = λ w. k.of_begin;
-  of_end = λ w. k.of_end;
+  of_begin = λ n h e w. k.of_begin;
+  of_end = λ n h e w. k.of_end;
+  of_section = λ C m n p w.
+      k.of_then (Unit {0}) ℕ anything v.word begin_section begin_section _ _ k.of_begin (λ _ _.
+      k.of_then ℕ ℕ v.word v.word m n _ _ (p w) (λ x wx.
+      k.of_then (Unit {0}) ℕ anything v.word end_section end_section (λ _. pure x) (λ _. pure x) k.of_end (λ _ _. k.of_pure ℕ v.word x wx)));
   of_exit = λ w. k.of_exit;
   of_create = λ C c n x h i w. k.of_create c n x (h w) (i w);
   of_join = λ C h i w. k.of_join h (i w);

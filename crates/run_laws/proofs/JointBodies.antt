@@ -22,13 +22,13 @@ use Rattle.run_model.specs.declared.state.Flow.{Flow}
 use Rattle.run_model.specs.declared.state.Flow.TheVariants.{Next, Broke, Continued, Returned}
 use Rattle.run_model.specs.declared.state.Need.TheVariants.{Any}
 use Rattle.run_model.specs.declared.state.Slot.TheVariants.{Own}
-use Rattle.run_model.specs.Steps.{Step, ◌>>=◌, ◌>>◌, pure, nothing, look, change, take_number, begin_section, end_section}
+use Rattle.run_model.specs.Steps.{Step, ◌>>=◌, ◌>>◌, pure, nothing, look, change, take_number}
 use Rattle.run_model.specs.Cells.{write}
 use Rattle.run_model.specs.Calls.{Context, spend}
 use Rattle.run_model.specs.Meaning.{eval}
 use Rattle.run_model.specs.Statements.{then_next, scoped, after_body, loop, do_loop, first_values, store_from, enter, declare_one, declare_all, eval_if, begin_for, turns, stmt_step, execute, execute_all}
 use Rattle.run_model.specs.Threads.{parameters, result_of, run_body, is_atomic, in_section, call_body, with_function, call_within, context_within}
-use Rattle.run_laws.specs.Constants.{in_all, constants, in_option, in_start, in_declarators, in_for, stmt_constants, in_stmt, in_body, in_functions}
+use Rattle.run_laws.specs.Leaves.{Leaf, in_all, leaves, in_option, in_start, in_declarators, in_for, stmt_leaves, in_stmt, in_body, in_functions}
 use Rattle.run_laws.proofs.Joint.{Two, one, two, Values, anything, Words, Leaves, Known, known_left, known_right, Closed, Relation, Relates, Premised, Also, Passes, Carries, premised, carries, still, both_then, both_nothing, both_look, both_cond}
 use Rattle.run_laws.proofs.JointMeaning.{meaning_meets}
 
@@ -114,7 +114,7 @@ module _ (g : Two) (v : Values) (c : Closed v) (R : Premised) (k : Carries g v R
     abbrev cy : Context
     cy = record { setting = two g; call = other }
 
-    eval_meets : (e : Expr) → Known v (constants e) → Always ℕ v.word (eval cx e) (eval cy e)
+    eval_meets : (e : Expr) → Known v (leaves e) → Always ℕ v.word (eval cx e) (eval cy e)
     eval_meets e h = (meaning_meets g v c R k called other calls e h).run
 
     eval_if_meets : (x : ℕ) → v.word x → (o : Option Expr) → Known v (in_option o) → Always ℕ v.word (eval_if cx x o) (eval_if cy x o)
@@ -136,13 +136,13 @@ module _ (g : Two) (v : Values) (c : Closed v) (R : Premised) (k : Carries g v R
     store_taken_meets l j (suc n) =
         store_meets l j (take_number Any) (take_number Any) (store_from l (j + 1) (replicate n (take_number Any))) (store_from l (j + 1) (replicate n (take_number Any))) k.of_any (store_taken_meets l (j + 1) n)
 
-    store_all_meets : (l j : ℕ) (es : List Expr) → Known v (in_all (map constants es)) → Stores (store_from l j (map (eval cx) es)) (store_from l j (map (eval cy) es))
+    store_all_meets : (l j : ℕ) (es : List Expr) → Known v (in_all (map leaves es)) → Stores (store_from l j (map (eval cx) es)) (store_from l j (map (eval cy) es))
     store_all_meets l j [] h = both_nothing g v R k
     store_all_meets l j (e ∷ es) h =
         store_meets l j (eval cx e) (eval cy e) (store_from l (j + 1) (map (eval cx) es)) (store_from l (j + 1) (map (eval cy) es))
-        (eval_meets e (known_left v (constants e) (in_all (map constants es)) h)) (store_all_meets l (j + 1) es (known_right v (constants e) (in_all (map constants es)) h))
+        (eval_meets e (known_left v (leaves e) (in_all (map leaves es)) h)) (store_all_meets l (j + 1) es (known_right v (leaves e) (in_all (map leaves es)) h))
 
-    store_one_meets : (l : ℕ) (e : Expr) → Known v (constants e) → Stores (store_from l 0 (eval cx e ∷ [])) (store_from l 0 (eval cy e ∷ []))
+    store_one_meets : (l : ℕ) (e : Expr) → Known v (leaves e) → Stores (store_from l 0 (eval cx e ∷ [])) (store_from l 0 (eval cy e ∷ []))
     store_one_meets l e h = store_meets l 0 (eval cx e) (eval cy e) nothing nothing (eval_meets e h) (both_nothing g v R k)
 
     first_values_meet : (l : ℕ) (w : TypeWord) (n : ℕ) (o : Option Initialiser) → Known v (in_start o) → Stores (store_from l 0 (first_values cx w n o)) (store_from l 0 (first_values cy w n o))
@@ -208,10 +208,10 @@ module _ (g : Two) (v : Values) (c : Closed v) (R : Premised) (k : Carries g v R
 
     abbrev Form : Stmt-F Piece → Type 0
     Form y =
-        Known v (stmt_constants (map-Stmt Stmt (List ℕ) in_stmt (map-Stmt Piece Stmt (λ e. e.0) y)))
+        Known v (stmt_leaves (map-Stmt Stmt (List Leaf) in_stmt (map-Stmt Piece Stmt (λ e. e.0) y)))
         → FlowMeets (stmt_step cx (map-Stmt Stmt (Step Flow) (execute cx) (map-Stmt Piece Stmt (λ e. e.0) y))) (stmt_step cy (map-Stmt Stmt (Step Flow) (execute cy) (map-Stmt Piece Stmt (λ e. e.0) y)))
 
-    if_meets : (t : Expr) (m n f h : Step Flow) → Known v (constants t) → FlowMeets m f → FlowMeets n h → FlowMeets (eval cx t >>= (λ x. cond (is_true x) m n)) (eval cy t >>= (λ x. cond (is_true x) f h))
+    if_meets : (t : Expr) (m n f h : Step Flow) → Known v (leaves t) → FlowMeets m f → FlowMeets n h → FlowMeets (eval cx t >>= (λ x. cond (is_true x) m n)) (eval cy t >>= (λ x. cond (is_true x) f h))
     if_meets t m n f h p q r =
         k.of_then _ ℕ Flow v.word (Leaves v) (eval cx t) (eval cy t) (λ x. cond (is_true x) m n) (λ x. cond (is_true x) f h) (eval_meets t p) (λ x. both_cond g v R k _ Flow (Leaves v) (is_true x) m n f h (still g v R k q) (still g v R k r))
 
@@ -222,18 +222,18 @@ module _ (g : Two) (v : Values) (c : Closed v) (R : Premised) (k : Carries g v R
     form (Stmt-F.Block p ys) h = scoped_meets (execute_all cx (stmts ys)) (execute_all cy (stmts ys)) (sequence_meets ys h)
     form (Stmt-F.Label p n y) h = scoped_meets (execute cx y.0) (execute cy y.0) (y.1 h)
     form (Stmt-F.If p t y None) h =
-        if_meets t (scoped (execute cx y.0)) (pure Next) (scoped (execute cy y.0)) (pure Next) (known_left v (constants t) (in_stmt y.0 ++ []) h)
-        (scoped_meets (execute cx y.0) (execute cy y.0) (y.1 (known_left v (in_stmt y.0) [] (known_right v (constants t) (in_stmt y.0 ++ []) h)))) (next_meets _)
+        if_meets t (scoped (execute cx y.0)) (pure Next) (scoped (execute cy y.0)) (pure Next) (known_left v (leaves t) (in_stmt y.0 ++ []) h)
+        (scoped_meets (execute cx y.0) (execute cy y.0) (y.1 (known_left v (in_stmt y.0) [] (known_right v (leaves t) (in_stmt y.0 ++ []) h)))) (next_meets _)
     form (Stmt-F.If p t y (Some z)) h =
-        let both = known_right v (constants t) (in_stmt y.0 ++ in_stmt z.0) h in
-        if_meets t (scoped (execute cx y.0)) (scoped (execute cx z.0)) (scoped (execute cy y.0)) (scoped (execute cy z.0)) (known_left v (constants t) (in_stmt y.0 ++ in_stmt z.0) h)
+        let both = known_right v (leaves t) (in_stmt y.0 ++ in_stmt z.0) h in
+        if_meets t (scoped (execute cx y.0)) (scoped (execute cx z.0)) (scoped (execute cy y.0)) (scoped (execute cy z.0)) (known_left v (leaves t) (in_stmt y.0 ++ in_stmt z.0) h)
         (scoped_meets (execute cx y.0) (execute cy y.0) (y.1 (known_left v (in_stmt y.0) (in_stmt z.0) both)))
         (scoped_meets (execute cx z.0) (execute cy z.0) (z.1 (known_right v (in_stmt y.0) (in_stmt z.0) both)))
     form (Stmt-F.While p t y) h =
-        turns_meet p (Some t) None (execute cx y.0) (execute cy y.0) (known_left v (constants t) (in_stmt y.0) h) (λ x in_none. absurd (omega (arith, in_none.1))) (y.1 (known_right v (constants t) (in_stmt y.0) h))
+        turns_meet p (Some t) None (execute cx y.0) (execute cy y.0) (known_left v (leaves t) (in_stmt y.0) h) tt (y.1 (known_right v (leaves t) (in_stmt y.0) h))
     form (Stmt-F.DoWhile p y t) h =
-        do_loop_meets p (eval cx t) (eval cy t) (eval_meets t (known_right v (in_stmt y.0) (constants t) h)) (scoped (execute cx y.0)) (scoped (execute cy y.0))
-        (scoped_meets (execute cx y.0) (execute cy y.0) (y.1 (known_left v (in_stmt y.0) (constants t) h))) g.other_turns g.turns k.of_turns
+        do_loop_meets p (eval cx t) (eval cy t) (eval_meets t (known_right v (in_stmt y.0) (leaves t) h)) (scoped (execute cx y.0)) (scoped (execute cy y.0))
+        (scoped_meets (execute cx y.0) (execute cy y.0) (y.1 (known_left v (in_stmt y.0) (leaves t) h))) g.other_turns g.turns k.of_turns
     form (Stmt-F.For p first t e y) h =
         let behind = known_right v (in_for first) (in_option t ++ (in_option e ++ in_stmt y.0)) h in
         let rest = known_right v (in_option t) (in_option e ++ in_stmt y.0) behind in
@@ -249,7 +249,7 @@ module _ (g : Two) (v : Values) (c : Closed v) (R : Premised) (k : Carries g v R
     rolled : (y : Stmt-F Piece) → StmtMeets (roll-Stmt (map-Stmt Piece Stmt (λ e. e.0) y))
     rolled y h =
         let z : Stmt-F Stmt = map-Stmt Piece Stmt (λ e. e.0) y in
-        let it : FlowMeets (stmt_step cx (map-Stmt Stmt (Step Flow) (execute cx) z)) (stmt_step cy (map-Stmt Stmt (Step Flow) (execute cy) z)) = form y (subst (Known v) (fold-roll-Stmt (List ℕ) stmt_constants z) h) in
+        let it : FlowMeets (stmt_step cx (map-Stmt Stmt (Step Flow) (execute cx) z)) (stmt_step cy (map-Stmt Stmt (Step Flow) (execute cy) z)) = form y (subst (Known v) (fold-roll-Stmt (List Leaf) stmt_leaves z) h) in
         subst (λ (m : Step Flow). FlowMeets m (execute cy (roll-Stmt z))) (sym (fold-roll-Stmt (Step Flow) (stmt_step cx) z))
         (subst (λ (n : Step Flow). FlowMeets (stmt_step cx (map-Stmt Stmt (Step Flow) (execute cx) z)) n) (sym (fold-roll-Stmt (Step Flow) (stmt_step cy) z)) it)
 
@@ -280,9 +280,7 @@ module _ (g : Two) (v : Values) (c : Closed v) (R : Premised) (k : Carries g v R
     call_body_meets : (f : Function) → Known v (in_body f) → (args : List ℕ) → R (Words v args) ℕ v.word (call_body cx f args) (call_body cy f args)
     call_body_meets f h args =
         both_cond g v R k _ ℕ v.word (is_atomic f) (in_section (run_body cx f args)) (run_body cx f args) (in_section (run_body cy f args)) (run_body cy f args)
-        (both_then g v R k _ anything v.word begin_section begin_section _ _ (still g v R k k.of_begin)
-        (k.of_then _ ℕ ℕ v.word v.word (run_body cx f args) (run_body cy f args) _ _ (run_body_meets f h args) (λ x.
-        both_then g v R k _ anything v.word end_section end_section (pure x) (pure x) (still g v R k k.of_end) (k.of_pure _ ℕ v.word x (λ z. z.last)))))
+        (k.of_section _ (run_body cx f args) (run_body cy f args) (run_body_meets f h args))
         (run_body_meets f h args)
 
   -- ---- calls

@@ -21,7 +21,7 @@ use Rattle.run_model.specs.Steps.{State, Step, ◌>>=◌, ◌>>◌, pure, look, 
 use Rattle.run_model.specs.Cells.{read, write, slot, unsigned_in, local_named}
 use Rattle.run_model.specs.Calls.{Meaning, Context, function_named, function_in, create, lock_cell, unlock_cell, exit_thread, join, no_argument, argument, builtin_call}
 use Rattle.run_model.specs.Meaning.{value, lvalue, operate, binary, assign, count, call, call_builtin, runs_of, result_unsigned, expr_step, meaning}
-use Rattle.run_laws.specs.Constants.{in_all, constants, constants_step}
+use Rattle.run_laws.specs.Leaves.{Leaf, in_all, leaves, leaves_step}
 use Rattle.run_laws.proofs.Joint.{Two, one, two, Values, anything, Words, Known, known_left, known_right, words-append, Closed, Premised, Also, Carries, still, both_then, both_look, both_cond}
 
 module _ (g : Two) (v : Values) (c : Closed v) (R : Premised) (k : Carries g v R) where
@@ -117,7 +117,7 @@ module _ (g : Two) (v : Values) (c : Closed v) (R : Premised) (k : Carries g v R
     cy = record { setting = two g; call = other }
 
     abbrev pub ExprMeets : Expr → Type 0
-    ExprMeets e = Known v (constants e) → Meets (meaning cx e) (meaning cy e)
+    ExprMeets e = Known v (leaves e) → Meets (meaning cx e) (meaning cy e)
 
     abbrev Part : Type 0
     Part = (e : Expr) × ExprMeets e
@@ -132,7 +132,7 @@ module _ (g : Two) (v : Values) (c : Closed v) (R : Premised) (k : Carries g v R
     rights ys = map (meaning cy) (exprs ys)
 
     abbrev AllKnown : List Part → Type 0
-    AllKnown ys = Known v (in_all (map constants (exprs ys)))
+    AllKnown ys = Known v (in_all (map leaves (exprs ys)))
 
     no_argument_meets : Meets no_argument no_argument
     no_argument_meets = values_meet (λ ls. false) (pure 0) (pure 0) (gives_zero (Unit {0}))
@@ -140,15 +140,15 @@ module _ (g : Two) (v : Values) (c : Closed v) (R : Premised) (k : Carries g v R
     argument_meets : (ys : List Part) → AllKnown ys → (i : ℕ) → Meets (argument (lefts ys) i) (argument (rights ys) i)
     argument_meets [] h zero = no_argument_meets
     argument_meets [] h (suc i) = no_argument_meets
-    argument_meets (y ∷ ys) h zero = y.1 (known_left v (constants y.0) (in_all (map constants (exprs ys))) h)
-    argument_meets (y ∷ ys) h (suc i) = argument_meets ys (known_right v (constants y.0) (in_all (map constants (exprs ys))) h) i
+    argument_meets (y ∷ ys) h zero = y.1 (known_left v (leaves y.0) (in_all (map leaves (exprs ys))) h)
+    argument_meets (y ∷ ys) h (suc i) = argument_meets ys (known_right v (leaves y.0) (in_all (map leaves (exprs ys))) h) i
 
     in_turn_meets : (C : Type 0) (done : List ℕ) → (C → Words v done) → (ys : List Part) → AllKnown ys → R C (List ℕ) (Words v) (in_turn done (runs_of (lefts ys))) (in_turn done (runs_of (rights ys)))
     in_turn_meets C done words [] h = k.of_pure C (List ℕ) (Words v) done words
     in_turn_meets C done words (y ∷ ys) h =
         k.of_then C ℕ (List ℕ) v.word (Words v) (meaning cx y.0).run (meaning cy y.0).run (λ x. in_turn (done ++ x ∷ []) (runs_of (lefts ys))) (λ x. in_turn (done ++ x ∷ []) (runs_of (rights ys)))
-        (still g v R k (y.1 (known_left v (constants y.0) (in_all (map constants (exprs ys))) h)).run)
-        (λ x. in_turn_meets (Also C (v.word x)) (done ++ x ∷ []) (λ z. words-append v done (x ∷ []) (words z.others) (z.last, tt)) ys (known_right v (constants y.0) (in_all (map constants (exprs ys))) h))
+        (still g v R k (y.1 (known_left v (leaves y.0) (in_all (map leaves (exprs ys))) h)).run)
+        (λ x. in_turn_meets (Also C (v.word x)) (done ++ x ∷ []) (λ z. words-append v done (x ∷ []) (words z.others) (z.last, tt)) ys (known_right v (leaves y.0) (in_all (map leaves (exprs ys))) h))
 
     -- a step behind an argument's evaluation, and one behind the finding of its cell
     behind_run : (C : Type 0) (ys : List Part) → AllKnown ys → (i : ℕ) (f h : ℕ → Step ℕ) → ((x : ℕ) → R (Also C (v.word x)) ℕ v.word (f x) (h x)) → R C ℕ v.word ((argument (lefts ys) i).run >>= f) ((argument (rights ys) i).run >>= h)
@@ -163,47 +163,47 @@ module _ (g : Two) (v : Values) (c : Closed v) (R : Premised) (k : Carries g v R
     create_meets : (C : Type 0) (s : Slot) (n o : Option Name) (x : ℕ) → n ≡ o → (C → v.cell s) → (C → v.word x) → R C ℕ v.word (create (one g) s (function_in (one g) n) x) (create (two g) s (function_in (two g) o) x)
     create_meets C s n o x e h i = subst (λ (o : Option Name). R C ℕ v.word (create (one g) s (function_in (one g) n) x) (create (two g) s (function_in (two g) o) x)) e (k.of_create C s n x h i)
 
-    builtin_meets : (p : Place) (d : Builtin) (ys : List Part) → AllKnown ys → Always ℕ v.word (builtin_call (one g) p d (lefts ys)) (builtin_call (two g) p d (rights ys))
-    builtin_meets p b.PthreadCreate ys h =
+    builtin_meets : (p : Place) (n : Name) (d : Builtin) (ys : List Part) → v.calls n → builtin_named n ≡ Some d → AllKnown ys → Always ℕ v.word (builtin_call (one g) p d (lefts ys)) (builtin_call (two g) p d (rights ys))
+    builtin_meets p n b.PthreadCreate ys c e h =
         behind_find ys h _ _ (λ s.
         behind_run _ ys h 3 _ _ (λ x.
         create_meets _ s (argument (lefts ys) 2).spelled (argument (rights ys) 2).spelled x (argument_meets ys h 2).spelled (λ z. z.others.last) (λ z. z.last)))
-    builtin_meets p b.PthreadJoin ys h = behind_run _ ys h 0 join join (λ x. k.of_join _ x (λ z. z.last))
-    builtin_meets p b.PthreadExit ys h = behind_run _ ys h 0 (λ _. exit_thread) (λ _. exit_thread) (λ _. still g v R k k.of_exit)
-    builtin_meets p b.Exit ys h = behind_run _ ys h 0 (λ _. stop) (λ _. stop) (λ _. still g v R k (k.of_stop ℕ v.word))
-    builtin_meets p b.Abort ys h = k.of_stop ℕ v.word
-    builtin_meets p b.Lock ys h = behind_find ys h _ _ (λ s. then_zero _ (lock_cell s) (k.of_lock _ s (λ z. z.last)))
-    builtin_meets p b.Unlock ys h = behind_find ys h _ _ (λ s. then_zero _ (unlock_cell s) (k.of_unlock _ s (λ z. z.last)))
-    builtin_meets p b.Init ys h = behind_find ys h _ _ (λ s. then_zero _ (unlock_cell s) (k.of_unlock _ s (λ z. z.last)))
-    builtin_meets p b.Destroy ys h = behind_find ys h (λ _. pure 0) (λ _. pure 0) (λ _. gives_zero _)
-    builtin_meets p b.Assert ys h =
+    builtin_meets p n b.PthreadJoin ys c e h = behind_run _ ys h 0 join join (λ x. k.of_join _ x (λ z. z.last))
+    builtin_meets p n b.PthreadExit ys c e h = behind_run _ ys h 0 (λ _. exit_thread) (λ _. exit_thread) (λ _. still g v R k k.of_exit)
+    builtin_meets p n b.Exit ys c e h = behind_run _ ys h 0 (λ _. stop) (λ _. stop) (λ _. still g v R k (k.of_stop ℕ v.word))
+    builtin_meets p n b.Abort ys c e h = k.of_stop ℕ v.word
+    builtin_meets p n b.Lock ys c e h = behind_find ys h _ _ (λ s. then_zero _ (lock_cell s) (k.of_lock _ s (λ z. z.last)))
+    builtin_meets p n b.Unlock ys c e h = behind_find ys h _ _ (λ s. then_zero _ (unlock_cell s) (k.of_unlock _ s (λ z. z.last)))
+    builtin_meets p n b.Init ys c e h = behind_find ys h _ _ (λ s. then_zero _ (unlock_cell s) (k.of_unlock _ s (λ z. z.last)))
+    builtin_meets p n b.Destroy ys c e h = behind_find ys h (λ _. pure 0) (λ _. pure 0) (λ _. gives_zero _)
+    builtin_meets p n b.Assert ys c e h =
         behind_run _ ys h 0 _ _ (λ x. both_cond g v R k _ ℕ v.word (is_true x) (pure 0) (fail p) (pure 0) (fail p) (gives_zero _) (still g v R k (k.of_fail ℕ v.word p)))
-    builtin_meets p b.Assume ys h =
+    builtin_meets p n b.Assume ys c e h =
         behind_run _ ys h 0 _ _ (λ x. both_cond g v R k _ ℕ v.word (is_true x) (pure 0) stop (pure 0) stop (gives_zero _) (still g v R k (k.of_stop ℕ v.word)))
-    builtin_meets p b.AssertFail ys h = k.of_fail ℕ v.word p
-    builtin_meets p b.ReachError ys h = k.of_fail ℕ v.word p
-    builtin_meets p b.AnyInt ys h = k.of_any
-    builtin_meets p b.AnyUint ys h = k.of_any
-    builtin_meets p b.AnyBool ys h = k.of_bool
-    builtin_meets p b.Begin ys h = then_zero _ begin_section k.of_begin
-    builtin_meets p b.Finish ys h = then_zero _ end_section k.of_end
-    builtin_meets p b.Synchronize ys h = then_zero _ (make Fence) k.of_fence
+    builtin_meets p n b.AssertFail ys c e h = k.of_fail ℕ v.word p
+    builtin_meets p n b.ReachError ys c e h = k.of_fail ℕ v.word p
+    builtin_meets p n b.AnyInt ys c e h = k.of_any
+    builtin_meets p n b.AnyUint ys c e h = k.of_any
+    builtin_meets p n b.AnyBool ys c e h = k.of_bool
+    builtin_meets p n b.Begin ys c e h = then_zero _ begin_section (k.of_begin n c e)
+    builtin_meets p n b.Finish ys c e h = then_zero _ end_section (k.of_end n c e)
+    builtin_meets p n b.Synchronize ys c e h = then_zero _ (make Fence) k.of_fence
 
-    call_builtin_meets : (p : Place) (n : Name) (o : Option Builtin) (ys : List Part) → AllKnown ys → Always ℕ v.word (call_builtin (one g) p n o (lefts ys)) (call_builtin (two g) p n o (rights ys))
-    call_builtin_meets p n None ys h = k.of_stop ℕ v.word
-    call_builtin_meets p n (Some d) ys h = builtin_meets p d ys h
+    call_builtin_meets : (p : Place) (n : Name) (o : Option Builtin) (ys : List Part) → v.calls n → builtin_named n ≡ o → AllKnown ys → Always ℕ v.word (call_builtin (one g) p n o (lefts ys)) (call_builtin (two g) p n o (rights ys))
+    call_builtin_meets p n None ys called e h = k.of_stop ℕ v.word
+    call_builtin_meets p n (Some d) ys called e h = builtin_meets p n d ys called e h
 
-    call_meets : (p : Place) (n : Name) (o : Option ℕ) (ys : List Part) → AllKnown ys → Always ℕ v.word (call cx p n (lefts ys) o) (call cy p n (rights ys) o)
-    call_meets p n (Some f) ys h =
+    call_meets : (p : Place) (n : Name) (o : Option ℕ) (ys : List Part) → v.calls n → AllKnown ys → Always ℕ v.word (call cx p n (lefts ys) o) (call cy p n (rights ys) o)
+    call_meets p n (Some f) ys name h =
         k.of_then _ (List ℕ) ℕ (Words v) v.word (in_turn [] (runs_of (lefts ys))) (in_turn [] (runs_of (rights ys))) (called f) (other f) (in_turn_meets _ [] (λ _. tt) ys h)
         (λ args. k.of_more (Words v args) _ ℕ v.word (called f args) (other f args) (λ z. z.last) (calls f args))
-    call_meets p n None ys h = call_builtin_meets p n (builtin_named n) ys h
+    call_meets p n None ys name h = call_builtin_meets p n (builtin_named n) ys name refl h
 
     -- ---- expressions
 
     abbrev Layer : Expr-F Part → Type 0
     Layer y =
-        Known v (constants_step (map-Expr Expr (List ℕ) constants (map-Expr Part Expr (λ e. e.0) y)))
+        Known v (leaves_step (map-Expr Expr (List Leaf) leaves (map-Expr Part Expr (λ e. e.0) y)))
         → Meets (expr_step cx (map-Expr Expr Meaning (meaning cx) (map-Expr Part Expr (λ e. e.0) y))) (expr_step cy (map-Expr Expr Meaning (meaning cy) (map-Expr Part Expr (λ e. e.0) y)))
 
     unary_type : (o : Bool → Bool) (m : State → Bool) (u : List Local → Bool) → m ≡ (λ s. u s.locals) → ◌≡◌ {A = State → Bool} (λ s. o (m s)) (λ s. o (u s.locals))
@@ -214,14 +214,14 @@ module _ (g : Two) (v : Values) (c : Closed v) (R : Premised) (k : Carries g v R
 
     layer : (y : Expr-F Part) → Layer y
     layer (Expr-F.Name p n) h = lvalues_meet (Some n) (λ ls. unsigned_in g.shared n ls (local_named ls n)) (slot g.shared p n 0) (slot g.shared p n 0) (k.of_slot p n 0)
-    layer (Expr-F.Number p x u) h = values_meet (λ ls. u) (pure x) (pure x) (gives _ x (λ _. h x (0, omega arith, refl)))
+    layer (Expr-F.Number p x u) h = values_meet (λ ls. u) (pure x) (pure x) (gives _ x (λ _. h.0))
     layer (Expr-F.Text p) h = values_meet (λ ls. false) (pure 0) (pure 0) (gives_zero _)
     layer (Expr-F.Bracket p e) h = e.1 h
     layer (Expr-F.Index p n e) h =
         lvalues_meet None (λ ls. unsigned_in g.shared n ls (local_named ls n)) _ _
         (k.of_then _ ℕ Slot v.word v.cell (meaning cx e.0).run (meaning cy e.0).run (slot g.shared p n) (slot g.shared p n) (e.1 h).run (λ i. still g v R k (k.of_slot p n i)))
     layer (Expr-F.Call p n es) h =
-        values_meet (λ ls. result_unsigned (one g) n (function_named (one g) n)) _ _ (call_meets p n (function_named (one g) n) es h)
+        values_meet (λ ls. result_unsigned (one g) n (function_named (one g) n)) _ _ (call_meets p n (function_named (one g) n) es h.0 h.1)
     layer (Expr-F.Cast p w e) h = values_meet (λ ls. word_unsigned w) _ _ (e.1 h).run
     layer (Expr-F.Unary p o e) h =
         let it = e.1 h in
@@ -237,27 +237,27 @@ module _ (g : Two) (v : Values) (c : Closed v) (R : Premised) (k : Carries g v R
         typed_meet it.unsigned _ _ _ _ it.left it.right
         (k.of_then _ (ℕ × ℕ) ℕ BothWords v.word (count p o (meaning cx e.0)) (count p o (meaning cy e.0)) (λ w. pure w.0) (λ w. pure w.0) (count_meets p o _ _ it) (λ w. gives _ w.0 (λ z. z.last.0)))
     layer (Expr-F.Binary p o e f) h =
-        let it = e.1 (known_left v (constants e.0) (constants f.0) h) in
-        let that = f.1 (known_right v (constants e.0) (constants f.0) h) in
+        let it = e.1 (known_left v (leaves e.0) (leaves f.0) h) in
+        let that = f.1 (known_right v (leaves e.0) (leaves f.0) h) in
         typed_meet (λ ls. binary_unsigned o (it.unsigned ls) (that.unsigned ls)) _ _ _ _
         (both_types (binary_unsigned o) _ _ it.unsigned that.unsigned it.left that.left) (both_types (binary_unsigned o) _ _ it.unsigned that.unsigned it.right that.right)
         (binary_meets p o _ _ _ _ it that)
     layer (Expr-F.Choose p t e f) h =
-        let test = t.1 (known_left v (constants t.0) (constants e.0 ++ constants f.0) h) in
-        let others = known_right v (constants t.0) (constants e.0 ++ constants f.0) h in
-        let it = e.1 (known_left v (constants e.0) (constants f.0) others) in
-        let that = f.1 (known_right v (constants e.0) (constants f.0) others) in
+        let test = t.1 (known_left v (leaves t.0) (leaves e.0 ++ leaves f.0) h) in
+        let others = known_right v (leaves t.0) (leaves e.0 ++ leaves f.0) h in
+        let it = e.1 (known_left v (leaves e.0) (leaves f.0) others) in
+        let that = f.1 (known_right v (leaves e.0) (leaves f.0) others) in
         typed_meet (λ ls. it.unsigned ls || that.unsigned ls) _ _ _ _
         (both_types (λ u w. u || w) _ _ it.unsigned that.unsigned it.left that.left) (both_types (λ u w. u || w) _ _ it.unsigned that.unsigned it.right that.right)
         (k.of_then _ ℕ ℕ v.word v.word (meaning cx t.0).run (meaning cy t.0).run _ _ test.run (λ x.
         both_cond g v R k _ ℕ v.word (is_true x) (meaning cx e.0).run (meaning cx f.0).run (meaning cy e.0).run (meaning cy f.0).run (still g v R k it.run) (still g v R k that.run)))
     layer (Expr-F.Assign p o e f) h =
-        let it = e.1 (known_left v (constants e.0) (constants f.0) h) in
-        let that = f.1 (known_right v (constants e.0) (constants f.0) h) in
+        let it = e.1 (known_left v (leaves e.0) (leaves f.0) h) in
+        let that = f.1 (known_right v (leaves e.0) (leaves f.0) h) in
         typed_meet it.unsigned _ _ _ _ it.left it.right (assign_meets p o _ _ _ _ it that)
     layer (Expr-F.Comma p e f) h =
-        let it = e.1 (known_left v (constants e.0) (constants f.0) h) in
-        let that = f.1 (known_right v (constants e.0) (constants f.0) h) in
+        let it = e.1 (known_left v (leaves e.0) (leaves f.0) h) in
+        let that = f.1 (known_right v (leaves e.0) (leaves f.0) h) in
         typed_meet that.unsigned _ _ _ _ that.left that.right
         (both_then g v R k _ v.word v.word (meaning cx e.0).run (meaning cy e.0).run (meaning cx f.0).run (meaning cy f.0).run it.run that.run)
     layer (Expr-F.Address p e) h =
@@ -267,7 +267,7 @@ module _ (g : Two) (v : Values) (c : Closed v) (R : Premised) (k : Carries g v R
     rolled : (y : Expr-F Part) → ExprMeets (roll-Expr (map-Expr Part Expr (λ e. e.0) y))
     rolled y h =
         let z : Expr-F Expr = map-Expr Part Expr (λ e. e.0) y in
-        let it : Meets (expr_step cx (map-Expr Expr Meaning (meaning cx) z)) (expr_step cy (map-Expr Expr Meaning (meaning cy) z)) = layer y (subst (Known v) (fold-roll-Expr (List ℕ) constants_step z) h) in
+        let it : Meets (expr_step cx (map-Expr Expr Meaning (meaning cx) z)) (expr_step cy (map-Expr Expr Meaning (meaning cy) z)) = layer y (subst (Known v) (fold-roll-Expr (List Leaf) leaves_step z) h) in
         subst (λ (m : Meaning). Meets m (meaning cy (roll-Expr z))) (sym (fold-roll-Expr Meaning (expr_step cx) z))
         (subst (λ (n : Meaning). Meets (expr_step cx (map-Expr Expr Meaning (meaning cx) z)) n) (sym (fold-roll-Expr Meaning (expr_step cy) z)) it)
 

@@ -1,11 +1,11 @@
 -- The numbers of runs, and of the threads of a candidate, are words.
 use Rattle.std.proofs.Common.{◌≡◌, ◌≢◌, ℕ, zero, suc, ◌+◌, ◌*◌, ◌^◌, ◌<◌, ◌≤◌, List, [], ◌∷◌, Option, Some, None, length, refl, sym, ap, ◌∙◌, subst, ⊎_elim, arith}
 use Rattle.std.specs.Prelude.{slice_get, slice_index_or, All}
-use Rattle.std.specs.List.{AllZip}
+use Rattle.std.specs.List.{AllZip, AllByRecursion}
 use Rattle.std.proofs.Math.Nat.{pow-le-pow_right}
 use Rattle.std.proofs.lemmas.Bool.{cases_eq}
 use Rattle.std.proofs.lemmas.Option.{same_Some, get_or_from_slice_get, slice_get_within, slice_get-get_or}
-use Rattle.std.proofs.lemmas.List.Elements.{All-nil, All-contains}
+use Rattle.std.proofs.lemmas.List.Elements.{All-nil, recursion_from_All}
 use Rattle.axiom_model.specs.declared.Action.{Action}
 use Rattle.axiom_model.specs.declared.Action.TheVariants.{Create, Start}
 use Rattle.axiom_model.specs.declared.Event.{Event}
@@ -29,15 +29,20 @@ use Rattle.run_model.proofs.KeptMeaning.{kept_no_other}
 use Rattle.run_model.proofs.KeptThread.{kept_thread}
 use Rattle.run_model.proofs.Handles.{Adds, Numbers, numbers_keeps, state_in, run_is_numbered}
 use Rattle.run_model.proofs.Creates.{numbered_at}
-use Rattle.run_laws.specs.Constants.{in_functions}
+use Rattle.run_laws.specs.Leaves.{Leaf, Value, Called, in_functions}
 use Rattle.run_laws.specs.Started.{IsStarted}
-use Rattle.run_laws.specs.Words.{IsWord, HasWordConstants, IsOfWords, IsCandidateOfWords}
+use Rattle.run_laws.specs.Words.{IsWord, IsWordIn, HasWordConstants, IsOfWords, IsCandidateOfWords}
 use Rattle.run_laws.proofs.Joint.{anything, Known}
 use Rattle.run_laws.proofs.JointBodies.{thread_body_carried}
 use Rattle.run_laws.proofs.Told.{twice, Ran, RanShort, ran, ran_short}
 use Rattle.run_laws.proofs.Started.{started_create_few, started_short_few, started_shallow}
 use Rattle.run_laws.proofs.Reached.{all_few}
 use Rattle.run_laws.proofs.Wording.{word_values, words_closed, Fine, Words_from, Gives, Worded, gives_and, gives_make, gives_finish, words_carried}
+
+known_words : (xs : List Leaf) → AllByRecursion IsWordIn xs → Known word_values xs
+known_words [] h = tt
+known_words (Value n ∷ xs) h = (h.0, known_words xs h.1)
+known_words (Called n ∷ xs) h = (tt, known_words xs h.1)
 
 -- ---- runs
 
@@ -49,7 +54,7 @@ module _ (p : Checked) (f handle arg : ℕ) (script : List ℕ) (constants : Has
   begun = record { script = words; locals = All-nil (λ (l : Local). All IsWord l.cells); actions = All-nil IsOfWords }
 
   known : Known word_values (in_functions g.functions)
-  known x c = All-contains IsWord (in_functions g.functions) x constants c
+  known = known_words (in_functions g.functions) (recursion_from_All IsWordIn (in_functions g.functions) constants)
 
   thread_words : (most : ℕ) → 64 * handle + most < 2 ^ 32 → (h : Function) → slice_get g.functions f ≡ Some h → Gives most (Unit {0}) ⊥ anything (thread_steps g h arg)
   thread_words most limit h is =

@@ -2,7 +2,7 @@
 use Rattle.std.proofs.Common.{◌≡◌, ℕ, zero, suc, ◌+◌, ◌-◌, ◌*◌, ◌<◌, ◌≤◌, ◌^◌, List, [], ◌∷◌, ◌++◌, Option, Some, None, Bool, true, false, set, refl, sym, ap, ◌∙◌, subst, inl, arith}
 use Rattle.std.specs.Prelude.{cond, nat_eq, nat_lt, slice_get, unwrap_or, slice_index, replicate, take, All}
 use Rattle.std.proofs.lemmas.Option.{slice_get_within, get_or_from_slice_get}
-use Rattle.std.proofs.lemmas.List.Elements.{All-nil, All-head, All-tail, All-push, All-set, All-replicate, All-take, All-contains}
+use Rattle.std.proofs.lemmas.List.Elements.{All-nil, All-head, All-tail, All-push, All-set, All-replicate, All-take}
 use Rattle.dg_base.specs.declared.Place.{Place}
 use Rattle.dg_base.specs.declared.operators.Op.{Op}
 use Rattle.dg_base.specs.Values.{value_of}
@@ -22,7 +22,7 @@ use Rattle.run_model.specs.declared.state.Slot.TheVariants.{Own, Common}
 use Rattle.run_model.specs.Steps.{State, Outcome, Goes, Halts, Step, go_on, ◌>>=◌, ◌>>◌, pure, nothing, change, ends, make, take_from, take_number, obey, ask, outside, open_section, begin_section, end_section, stop, fail}
 use Rattle.run_model.specs.Cells.{cells_in, cells_at, with_cell_in, with_cell, read, write, slot, slot_in, slot_in_shared, shared_named, local_named}
 use Rattle.run_model.specs.Calls.{Setting, hold, lock_cell, unlock_cell, finish, exit_thread, any_bool, create, join, function_in, spend}
-use Rattle.run_model.specs.Threads.{parameter, parameters}
+use Rattle.run_model.specs.Threads.{parameter, parameters, in_section}
 use Rattle.run_model.proofs.Handles.{state_in}
 use Rattle.run_laws.specs.Words.{IsWord, IsOfWords}
 use Rattle.run_laws.proofs.Joint.{Two, one, anything, Values, Words, Closed, Leaves, Ok, ok_any, Premised, Also, Carries}
@@ -33,7 +33,7 @@ abbrev pub AreWordLocals : List Local → Type 0
 AreWordLocals ls = All (λ (l : Local). All IsWord l.cells) ls
 
 abbrev pub word_values : Values
-word_values = record { word = IsWord; cell = anything; locals = AreWordLocals }
+word_values = record { word = IsWord; cell = anything; locals = AreWordLocals; calls = anything }
 
 word_at : (xs : List ℕ) (i : ℕ) → Words word_values xs → IsWord (slice_index xs i)
 word_at [] zero h = omega arith
@@ -185,6 +185,11 @@ module _ (most : ℕ) where
   gives_finish_section : (C : Type 0) → Gives C (Unit {0}) anything end_section
   gives_finish_section C = gives_and C anything anything (change (λ s. record s { depth = s.depth - 1 })) (outside (make action.Close)) (gives_depth C (λ d. d - 1)) (gives_close C)
 
+  gives_section : (C : Type 0) (m : Step ℕ) → Gives C ℕ IsWord m → Gives C ℕ IsWord (in_section m)
+  gives_section C m p =
+      gives_and C anything IsWord begin_section _ (gives_begin C)
+      (gives_then C ℕ ℕ IsWord IsWord m _ p (λ x. gives_and _ anything IsWord end_section (pure x) (gives_finish_section _) (gives_pure _ ℕ IsWord x (λ z. z.last))))
+
   -- ---- cells
 
   gives_read : (C : Type 0) (c : Slot) → Gives C ℕ IsWord (read c)
@@ -290,8 +295,9 @@ module _ (most : ℕ) where
     of_own = λ C i j x w. gives_write C (Own i j) x w;
     of_lock = λ C c h. gives_lock C c;
     of_unlock = λ C c h. gives_unlock C c;
-    of_begin = gives_begin (Unit {0});
-    of_end = gives_finish_section (Unit {0});
+    of_begin = λ n h e. gives_begin (Unit {0});
+    of_end = λ n h e. gives_finish_section (Unit {0});
+    of_section = λ C m n p. gives_section C m p;
     of_exit = gives_exit (Unit {0});
     of_create = λ C c n x h w. gives_create C (one g) limit c (function_in (one g) n) x w;
     of_join = gives_join;

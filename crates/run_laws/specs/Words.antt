@@ -13,15 +13,20 @@ use Rattle.c_check.specs.WellFormed.{IsChecked}
 use Rattle.run_model.specs.Programs.{shape_of}
 use Rattle.run_model.specs.Threads.{ShortRun, thread_run, short_run}
 use Rattle.run_model.specs.Laws.{creates_in}
-use Rattle.run_laws.specs.Constants.{in_functions}
+use Rattle.run_laws.specs.Leaves.{Leaf, Value, Called, in_functions}
 use Rattle.run_laws.specs.Started.{IsStarted}
 
 abbrev pub IsWord : ℕ → Type 0
 IsWord n = n < 2 ^ 32
 
+-- a constant is a word
+abbrev pub IsWordIn : Leaf → Type 0
+IsWordIn (Value n) = IsWord n
+IsWordIn (Called name) = Unit {0}
+
 -- the constants of the functions are words, as those that are read from a text are
 abbrev pub HasWordConstants : Checked → Type 0
-HasWordConstants p = All IsWord (in_functions (functions_of p.program.items))
+HasWordConstants p = All IsWordIn (in_functions (functions_of p.program.items))
 
 -- the values, arguments and handles of an action are words
 abbrev pub IsOfWords : Action → Type 0
