@@ -79,11 +79,11 @@ frames_cond A false m n p q = q
 ends_framed : (e : Ending) → has_ended e ≡ false → (s : State) → Framed (last_of (has_ended e)) s s
 ends_framed e h s = subst (λ (b : Bool). Framed (last_of b) s s) (sym h) (none_made s s refl)
 
-quiet : (b : Bool) → has_ended (cond b Stopped Bad) ≡ false
+pub quiet : (b : Bool) → has_ended (cond b Stopped Bad) ≡ false
 quiet true = refl
 quiet false = refl
 
-quiet_bound : (p : Place) (b c : Bool) → has_ended (cond b (Bound p) (cond c Stopped Bad)) ≡ false
+pub quiet_bound : (p : Place) (b c : Bool) → has_ended (cond b (Bound p) (cond c Stopped Bad)) ≡ false
 quiet_bound p true c = refl
 quiet_bound p false c = quiet c
 

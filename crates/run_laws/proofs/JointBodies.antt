@@ -114,10 +114,10 @@ module _ (g : Two) (v : Values) (c : Closed v) (R : Premised) (k : Carries g v R
     abbrev cy : Context
     cy = record { setting = two g; call = other }
 
-    eval_meets : (e : Expr) → Known v (leaves e) → Always ℕ v.word (eval cx e) (eval cy e)
+    pub eval_meets : (e : Expr) → Known v (leaves e) → Always ℕ v.word (eval cx e) (eval cy e)
     eval_meets e h = (meaning_meets g v c R k called other calls e h).run
 
-    eval_if_meets : (x : ℕ) → v.word x → (o : Option Expr) → Known v (in_option o) → Always ℕ v.word (eval_if cx x o) (eval_if cy x o)
+    pub eval_if_meets : (x : ℕ) → v.word x → (o : Option Expr) → Known v (in_option o) → Always ℕ v.word (eval_if cx x o) (eval_if cy x o)
     eval_if_meets x w None h = k.of_pure _ ℕ v.word x (λ _. w)
     eval_if_meets x w (Some e) h = eval_meets e h
 
@@ -163,13 +163,13 @@ module _ (g : Two) (v : Values) (c : Closed v) (R : Premised) (k : Carries g v R
         (k.of_locals _ (λ ls. ls ++ record { name = d.name; unsigned = word_unsigned w; cells = replicate (cell_count d) 0 } ∷ []) (λ _ ls p. c.enters d.name (word_unsigned w) (cell_count d) ls p))
         (still g v R k (first_values_meet l w (cell_count d) d.initialiser h)))
 
-    declare_meets : (w : TypeWord) (ds : List Declarator) → Known v (in_declarators ds) → Stores (declare_all cx w ds) (declare_all cy w ds)
+    pub declare_meets : (w : TypeWord) (ds : List Declarator) → Known v (in_declarators ds) → Stores (declare_all cx w ds) (declare_all cy w ds)
     declare_meets w [] h = both_nothing g v R k
     declare_meets w (d ∷ ds) h =
         both_then g v R k _ anything anything (declare_one cx w d) (declare_one cy w d) (declare_all cx w ds) (declare_all cy w ds)
         (declare_one_meets w d (known_left v (in_start d.initialiser) (in_declarators ds) h)) (declare_meets w ds (known_right v (in_start d.initialiser) (in_declarators ds) h))
 
-    begin_for_meets : (t : Start) → Known v (in_for t) → Stores (begin_for cx t) (begin_for cy t)
+    pub begin_for_meets : (t : Start) → Known v (in_for t) → Stores (begin_for cx t) (begin_for cy t)
     begin_for_meets start.Nothing h = both_nothing g v R k
     begin_for_meets (start.Expr e) h = both_then g v R k _ v.word anything (eval cx e) (eval cy e) nothing nothing (eval_meets e h) (both_nothing g v R k)
     begin_for_meets (start.Declare d) h = declare_meets d.word d.declarators h
