@@ -22,3 +22,6 @@ pub mod Resuming
 pub mod Besides
 pub mod Using
 pub mod Used
+pub mod Levels
+pub mod Unmarked
+pub mod LevelBodies
