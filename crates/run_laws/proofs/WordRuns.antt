@@ -73,8 +73,8 @@ module _ (p : Checked) (f handle arg : ℕ) (script : List ℕ) (constants : Has
   outcome_words : (o : Outcome ⊥) → Adds handle (begins script) (state_in o) → ((most : ℕ) → 64 * handle + most < 2 ^ 32 → Words_from most (Unit {0}) ⊥ anything (begins script) o) → OfWords o
   outcome_words o adds gives limit =
       let t : State = state_in o in
-      let same : creates_in t.actions ≡ t.created = ap creates_in adds.actions ∙ sym adds.count in
-      let low : 64 * handle + t.created < 2 ^ 32 = omega (arith, same, limit) in
+      let same : creates_in t.actions ≡ creates_in adds.made = ap creates_in adds.actions in
+      let low : 64 * handle + t.created < 2 ^ 32 = omega (arith, same, adds.count, limit) in
       ((gives t.created low).1 tt begun (omega arith)).0.actions
 
   all_words : (h : Function) → slice_get g.functions f ≡ Some h → OfWords (thread_steps g h arg (begins script))

@@ -12,7 +12,7 @@ use Rattle.axiom_model.specs.declared.Action.TheVariants as action
 use Rattle.c_tree.specs.declared.program.Param.{Param}
 use Rattle.c_rules.specs.Names.{Name}
 use Rattle.run_model.specs.declared.state.Ending.{Ending}
-use Rattle.run_model.specs.declared.state.Ending.TheVariants.{Bad}
+use Rattle.run_model.specs.declared.state.Ending.TheVariants.{Ended, Bad}
 use Rattle.run_model.specs.declared.state.Local.{Local}
 use Rattle.run_model.specs.declared.state.Need.{Need}
 use Rattle.run_model.specs.declared.state.Need.TheVariants.{ReadOf, Go, Truth, Any}
@@ -204,8 +204,8 @@ module _ (most : ℕ) where
 
   gives_shared : (C : Type 0) (p : Place) (o : Option Shared) (i : ℕ) → Gives C Slot anything (slot_in_shared p o i)
   gives_shared C p None i = gives_stop C Slot anything
-  gives_shared C p (Some v) i s =
-      gives_cond C Slot anything (nat_lt i v.count) (pure (Common (v.first + i))) (fail p) (gives_pure C Slot anything (Common (v.first + i)) (λ _. tt)) (λ s. (omega arith, λ c fine low. (fine, tt))) s
+  gives_shared C p (Some v) i =
+      gives_cond C Slot anything (nat_lt i v.count) (pure (Common (v.first + i))) (fail p) (gives_pure C Slot anything (Common (v.first + i)) (λ _. tt)) (λ s. (omega arith, λ c fine low. (fine, tt)))
 
   gives_slot_in : (C : Type 0) (shared : List Shared) (p : Place) (n : Name) (o : Option ℕ) (i : ℕ) → Gives C Slot anything (slot_in shared p n o i)
   gives_slot_in C shared p n None i s = gives_shared C p (shared_named shared n) i s
@@ -234,7 +234,7 @@ module _ (most : ℕ) where
       (gives_and C anything anything (write c 0) (outside (make action.Close)) (gives_write C c 0 (λ _. omega arith)) (gives_close C))
 
   pub gives_finish : (C A : Type 0) (Q : A → Type 0) → Gives C A Q finish
-  gives_finish C A Q = gives_and C anything Q (make action.End) (ends _) (gives_make C action.End (λ _. tt)) (gives_end C A Q _)
+  gives_finish C A Q = gives_and C anything Q (make action.End) (ends Ended) (gives_make C action.End (λ _. tt)) (gives_end C A Q Ended)
 
   gives_exit : (C : Type 0) → Gives C ℕ IsWord exit_thread
   gives_exit C s = gives_cond C ℕ IsWord (nat_eq s.depth 0) finish (ends Bad) (gives_finish C ℕ IsWord) (gives_end C ℕ IsWord Bad) s
