@@ -37,7 +37,7 @@ use Rattle.run_model.specs.Meaning.{call, call_builtin, expr_step, meaning, eval
 use Rattle.run_model.specs.Statements.{then_next, scoped, after_body, loop, do_loop, declare_all, eval_if, begin_for, turns, stmt_step, execute, execute_all}
 use Rattle.run_model.specs.Threads.{parameters, result_of, run_body, is_atomic, in_section, call_body, with_function, call_within, context_within}
 use Rattle.run_laws.specs.Leaves.{leaves}
-use Rattle.run_laws.proofs.Joint.{Two, one, two, anything, Relation, premised, Also, Carries}
+use Rattle.run_laws.proofs.Joint.{Two, one, two, anything, Leaves, Relation, premised, Also, Carries}
 use Rattle.run_laws.proofs.JointBodies.{eval_meets, eval_if_meets, declare_meets, begin_for_meets}
 use Rattle.run_laws.proofs.Told.{twice}
 use Rattle.run_laws.proofs.Expressions.{both_none, holds_at}
@@ -75,7 +75,7 @@ level_carried p handle = record {
   of_create = λ C c n x h i k d. leads_create (at d) (one (twice p handle)) c (function_in (one (twice p handle)) n) x;
   of_join = λ C h i k d. leads_join h d;
   of_fence = λ c d. leads_make (at d) action.Fence tt;
-  of_spend = λ w c d. leads_spend (at d) (at d) Flow _ (one (twice p handle)) w;
+  of_spend = λ w c d. leads_spend (at d) (at d) Flow (Leaves unmarked_values) (one (twice p handle)) w;
   of_turns = inl refl;
 }
 
@@ -102,8 +102,8 @@ next_holds i d = leads_pure (at d) Flow (Allowed i) Next (next_allowed i)
 
 scoped_holds : (i : Inside) (m : Step Flow) → Holds i m → Holds i (scoped m)
 scoped_holds i m h d =
-    leads_then (at d) (at d) (at d) ℕ Flow anything (Allowed i) (look (λ s. length s.locals)) _ (leads_look (at d) ℕ (λ ls. length ls)) (λ l _.
-    leads_then (at d) (at d) (at d) Flow Flow (Allowed i) (Allowed i) m _ (h d) (λ f ok.
+    leads_then (at d) (at d) (at d) ℕ Flow anything (Allowed i) (look (λ s. length s.locals)) (λ l. m >>= (λ f. change (λ s. record s { locals = take l s.locals }) >> pure f)) (leads_look (at d) ℕ (λ ls. length ls)) (λ l _.
+    leads_then (at d) (at d) (at d) Flow Flow (Allowed i) (Allowed i) m (λ f. change (λ s. record s { locals = take l s.locals }) >> pure f) (h d) (λ f ok.
     leads_and (at d) (at d) (at d) anything (Allowed i) (change (λ s. record s { locals = take l s.locals })) (pure f) (leads_locals (at d) (λ ls. take l ls)) (leads_pure (at d) Flow (Allowed i) f ok)))
 
 then_next_leads : (i : Inside) (f : Flow) → Allowed i f → (m : Step Flow) (d : ℕ) → Leads (at d) (at d) Flow (Allowed i) m → Leads (at d) (at d) Flow (Allowed i) (then_next f m)
@@ -269,30 +269,30 @@ module _ (p : Checked) (handle : ℕ) (no_begins : function_named (one (twice p 
       one_more : (y : Piece) (ys : List Piece) → Rest ys → (opened : Bool) (k : Mark) → (sectioned y.0).mark ≡ k → (opened ≡ true → (is_marked k || some_marked (marks ys)) ≡ true)
           → broken_there opened i (some_marked (marks ys)) (sectioned y.0).found k ≡ None → in_block (behind_mark opened k) i (marks ys) ≡ None → (d : ℕ)
           → Leads (at (inside opened d)) (at d) Flow (Allowed i) (execute cx y.0 >>= (λ f. then_next f (execute_all cx (stmts ys))))
-      one_more y ys rest false (Begins q) is open here behind d =
+      one_more y ys rest false (Begins q) is later here behind d =
           let ok = and_parts (is_outside i) (some_marked (marks ys)) (holds_at (is_outside i && some_marked (marks ys)) q here) in
-          leads_then (at d) (at (suc d)) (at d) Flow Flow IsNext (Allowed i) (execute cx y.0) _ (y.1.begins q is d)
+          leads_then (at d) (at (suc d)) (at d) Flow Flow IsNext (Allowed i) (execute cx y.0) (λ f. then_next f (execute_all cx (stmts ys))) (y.1.begins q is d)
           (λ f next. marked_next f next (execute_all cx (stmts ys)) (at (suc d)) (at d) (rest true (λ _. ok.1) behind d))
-      one_more y ys rest true (Begins q) is open here behind d =
+      one_more y ys rest true (Begins q) is later here behind d =
           absurd (false≢true (and_parts (is_outside i) false (holds_at (is_outside i && false) q here)).1)
-      one_more y ys rest false (Ends q) is open here behind d =
+      one_more y ys rest false (Ends q) is later here behind d =
           absurd (false≢true (and_parts (is_outside i) false (holds_at (is_outside i && false) q here)).1)
-      one_more y ys rest true (Ends q) is open here behind d =
-          leads_then (at (suc d)) (at d) (at d) Flow Flow IsNext (Allowed i) (execute cx y.0) _ (y.1.ends q is d)
+      one_more y ys rest true (Ends q) is later here behind d =
+          leads_then (at (suc d)) (at d) (at d) Flow Flow IsNext (Allowed i) (execute cx y.0) (λ f. then_next f (execute_all cx (stmts ys))) (y.1.ends q is d)
           (λ f next. marked_next f next (execute_all cx (stmts ys)) (at d) (at d) (rest false (λ no. absurd (false≢true no)) behind d))
-      one_more y ys rest false Neither is open here behind d =
-          leads_then (at d) (at d) (at d) Flow Flow (Allowed i) (Allowed i) (execute cx y.0) _ (y.1.plain i here d)
+      one_more y ys rest false Neither is later here behind d =
+          leads_then (at d) (at d) (at d) Flow Flow (Allowed i) (Allowed i) (execute cx y.0) (λ f. then_next f (execute_all cx (stmts ys))) (y.1.plain i here d)
           (λ f ok. then_next_leads i f ok (execute_all cx (stmts ys)) d (rest false (λ no. absurd (false≢true no)) behind d))
-      one_more y ys rest true Neither is open here behind d =
-          leads_then (at (suc d)) (at (suc d)) (at d) Flow Flow (Allowed InSection) (Allowed i) (execute cx y.0) _ (y.1.plain InSection here (suc d))
-          (λ f ok. open_next f ok (execute_all cx (stmts ys)) (at (suc d)) (at d) (rest true open behind d))
+      one_more y ys rest true Neither is later here behind d =
+          leads_then (at (suc d)) (at (suc d)) (at d) Flow Flow (Allowed InSection) (Allowed i) (execute cx y.0) (λ f. then_next f (execute_all cx (stmts ys))) (y.1.plain InSection here (suc d))
+          (λ f ok. open_next f ok (execute_all cx (stmts ys)) (at (suc d)) (at d) (rest true later behind d))
 
       sequence_leads : (ys : List Piece) → Rest ys
-      sequence_leads [] false open e d = next_holds i d
-      sequence_leads [] true open e d = absurd (false≢true (open refl))
-      sequence_leads (y ∷ ys) opened open e =
+      sequence_leads [] false later e d = next_holds i d
+      sequence_leads [] true later e d = absurd (false≢true (later refl))
+      sequence_leads (y ∷ ys) opened later e d =
           let parts = both_none (broken_there opened i (some_marked (marks ys)) (sectioned y.0).found (sectioned y.0).mark) (in_block (behind_mark opened (sectioned y.0).mark) i (marks ys)) e in
-          one_more y ys (sequence_leads ys) opened (sectioned y.0).mark refl open parts.0 parts.1
+          one_more y ys (sequence_leads ys) opened (sectioned y.0).mark refl later parts.0 parts.1 d
 
       block_holds : (ys : List Piece) → in_block false i (marks ys) ≡ None → Holds i (execute_all cx (stmts ys))
       block_holds ys e d = sequence_leads ys false (λ no. absurd (false≢true no)) e d
@@ -403,9 +403,11 @@ module _ (p : Checked) (handle : ℕ) (no_begins : function_named (one (twice p 
 
     pub run_body_level : (f : Function) → unmatched_in_function f ≡ None → (args : List ℕ) → Level ℕ anything (run_body cx f args) (run_body cx f args)
     run_body_level f e args d =
-        leads_then (at d) (at d) (at d) (List Local) ℕ anything anything (look (λ s. s.locals)) _ (leads_look (at d) (List Local) (λ ls. ls)) (λ outer _.
-        leads_and (at d) (at d) (at d) anything anything (change (λ s. record s { locals = parameters [] 0 f.params args })) _ (leads_locals (at d) (λ ls. parameters [] 0 f.params args))
-        (leads_then (at d) (at d) (at d) Flow ℕ (Allowed Outside) anything (execute_all cx f.body) _ (body_holds f.body e d) (λ flow _.
+        let own : Step (Unit {0}) = change (λ s. record s { locals = parameters [] 0 f.params args }) in
+        let back : List Local → Flow → Step ℕ = λ outer flow. change (λ s. record s { locals = outer }) >> pure (result_of flow) in
+        leads_then (at d) (at d) (at d) (List Local) ℕ anything anything (look (λ s. s.locals)) (λ outer. own >> (execute_all cx f.body >>= back outer)) (leads_look (at d) (List Local) (λ ls. ls)) (λ outer _.
+        leads_and (at d) (at d) (at d) anything anything own (execute_all cx f.body >>= back outer) (leads_locals (at d) (λ ls. parameters [] 0 f.params args))
+        (leads_then (at d) (at d) (at d) Flow ℕ (Allowed Outside) anything (execute_all cx f.body) (back outer) (body_holds f.body e d) (λ flow _.
         leads_and (at d) (at d) (at d) anything anything (change (λ s. record s { locals = outer })) (pure (result_of flow)) (leads_locals (at d) (λ ls. outer)) (leads_pure (at d) ℕ anything (result_of flow) tt))))
 
     call_body_level : (f : Function) → unmatched_in_function f ≡ None → (args : List ℕ) → Level ℕ anything (call_body cx f args) (call_body cx f args)
@@ -424,11 +426,11 @@ module _ (p : Checked) (handle : ℕ) (no_begins : function_named (one (twice p 
     with_level : (n : ℕ) (o : Option Function) → ((f : Function) → o ≡ Some f → unmatched_in_function f ≡ None) → (args : List ℕ) → ((f : ℕ) (xs : List ℕ) → Level ℕ anything (call_within n (one g) f xs) (call_within n (one g) f xs))
         → Level ℕ anything (with_function o (λ h. call_body (context_within n (one g)) h args)) (with_function o (λ h. call_body (context_within n (one g)) h args))
     with_level n None h args rest d = leads_stop (at d) (at d) ℕ anything
-    with_level n (Some f) h args rest = call_body_level (call_within n (one g)) rest f (h f refl) args
+    with_level n (Some f) h args rest d = call_body_level (call_within n (one g)) rest f (h f refl) args d
 
     calls_level : (n f : ℕ) (args : List ℕ) → Level ℕ anything (call_within n (one g) f args) (call_within n (one g) f args)
     calls_level zero f args d = leads_stop (at d) (at d) ℕ anything
-    calls_level (suc n) f args = with_level n (slice_get g.functions f) (λ h e. function_matched g.functions f h e matched) args (calls_level n)
+    calls_level (suc n) f args d = with_level n (slice_get g.functions f) (λ h e. function_matched g.functions f h e matched) args (calls_level n) d
 
     -- the body of a thread ends at the depth at which it began
     pub thread_body_level : (n i : ℕ) (f : Function) → slice_get g.functions i ≡ Some f → (args : List ℕ) (d : ℕ) → Leads (at d) (at d) ℕ anything (run_body (context_within n (one g)) f args)

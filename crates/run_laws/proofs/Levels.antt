@@ -1,7 +1,7 @@
 -- What steps do to the depth of sections and to their marks.
 use Rattle.std.proofs.Common.{◌≡◌, ℕ, zero, suc, ◌+◌, ◌-◌, ◌*◌, List, [], ◌∷◌, ◌++◌, Option, Some, None, Bool, true, false, refl, sym, ap, ◌∙◌, subst, append_assoc, inl, arith}
 use Rattle.std.specs.Prelude.{cond, nat_eq, nat_lt, slice_get, unwrap_or}
-use Rattle.std.proofs.lemmas.Bool.{false≢true}
+use Rattle.std.proofs.lemmas.Bool.{false≢true, ne_eqb}
 use Rattle.dg_base.specs.declared.Place.{Place}
 use Rattle.axiom_model.specs.declared.Action.{Action}
 use Rattle.axiom_model.specs.declared.Action.TheVariants as action
@@ -50,16 +50,16 @@ behind_markless b xs a h p = in_turn-append false b b xs (a ∷ []) p (one_markl
 -- the depth, and whether a section is open
 pub record Spot : Type 0 where
   pub depth : ℕ
-  pub open : Bool
+  pub opened : Bool
 
 -- between steps a section is open where the depth is not 0
 abbrev pub at : ℕ → Spot
-at zero = record { depth = 0; open = false }
-at (suc n) = record { depth = suc n; open = true }
+at zero = record { depth = 0; opened = false }
+at (suc n) = record { depth = suc n; opened = true }
 
 pub record IsAt (x : Spot) (s : State) : Type 0 where
   pub depth : s.depth ≡ x.depth
-  pub marks : AreInTurn false s.actions x.open
+  pub marks : AreInTurn false s.actions x.opened
 
 -- where a step goes on it stands there, with such a value; where it ends the run, the marks stand in turn
 abbrev pub Comes : {A : Type 0} → Spot → (A → Type 0) → Outcome A → Type 0
@@ -94,7 +94,7 @@ leads_cond x y A Q false m n p q = q
 
 -- a run that stops may do so in a section
 stopped : (x : Spot) (s : State) → IsAt x s → HasSections s.actions false
-stopped x s here = record { open = x.open; in_turn = here.marks; closed = λ e. absurd (false≢true e) }
+stopped x s here = record { opened = x.opened; in_turn = here.marks; closed = λ e. absurd (false≢true e) }
 
 stopped_by : (x : Spot) (s : State) (e : Ending) → has_ended e ≡ false → IsAt x s → HasSections s.actions (has_ended e)
 stopped_by x s e h here = subst (λ (b : Bool). HasSections s.actions b) (sym h) (stopped x s here)
@@ -119,7 +119,7 @@ pub leads_taking : (x : Spot) (n : Need) → Leads x x ℕ anything (take_number
 leads_taking x n s here = taking_comes x n s s.script here
 
 pub leads_make : (x : Spot) (a : Action) → IsMarkless a → Leads x x (Unit {0}) anything (make a)
-leads_make x a h s here = (record { depth = here.depth; marks = behind_markless x.open s.actions a h here.marks }, tt)
+leads_make x a h s here = (record { depth = here.depth; marks = behind_markless x.opened s.actions a h here.marks }, tt)
 
 pub leads_locals : (x : Spot) (f : List Local → List Local) → Leads x x (Unit {0}) anything (change (λ s. record s { locals = f s.locals }))
 leads_locals x f s here = (record { depth = here.depth; marks = here.marks }, tt)
@@ -131,7 +131,7 @@ leads_look x A f s here = (here, tt)
 
 -- a spot at this depth, with a section open or not
 abbrev spot : ℕ → Bool → Spot
-spot d b = record { depth = d; open = b }
+spot d b = record { depth = d; opened = b }
 
 leads_opening : (d : ℕ) → Leads (spot d false) (spot d true) (Unit {0}) anything (make action.Open)
 leads_opening d s here = (record { depth = here.depth; marks = in_turn-append false false true s.actions (action.Open ∷ []) here.marks (refl, refl) }, tt)
@@ -143,8 +143,11 @@ leads_closing d s here = (record { depth = here.depth; marks = in_turn-append fa
 outside_made : (b : Bool) (y : Spot) (m : Step (Unit {0})) → Leads (spot 0 b) y (Unit {0}) anything m → Leads (spot 0 b) y (Unit {0}) anything (outside m)
 outside_made b y m p s here = subst (λ (n : ℕ). Comes y anything (cond (nat_eq n 0) m nothing s)) (sym here.depth) (p s here)
 
+not_outside : (n : ℕ) (b : Bool) (s : State) → IsAt (spot (suc n) b) s → nat_eq s.depth 0 ≡ false
+not_outside n b s here = ne_eqb s.depth 0 (λ e. absurd (omega (arith, e, here.depth)))
+
 outside_left : (n : ℕ) (b : Bool) (m : Step (Unit {0})) → Leads (spot (suc n) b) (spot (suc n) b) (Unit {0}) anything (outside m)
-outside_left n b m s here = subst (λ (d : ℕ). Comes (spot (suc n) b) anything (cond (nat_eq d 0) m nothing s)) (sym here.depth) (here, tt)
+outside_left n b m s here = subst (λ (t : Bool). Comes (spot (suc n) b) anything (cond t m nothing s)) (sym (not_outside n b s here)) (here, tt)
 
 leads_obey : (x : Spot) (n : ℕ) → Leads x x (Unit {0}) anything (obey n)
 leads_obey x zero = leads_ends x x (Unit {0}) anything Stopped refl
@@ -176,8 +179,8 @@ leads_end (suc d) =
 
 pub leads_section : (d : ℕ) (m : Step ℕ) → Leads (at (suc d)) (at (suc d)) ℕ anything m → Leads (at d) (at d) ℕ anything (in_section m)
 leads_section d m p =
-    leads_and (at d) (at (suc d)) (at d) anything anything begin_section _ (leads_begin d)
-    (leads_then (at (suc d)) (at (suc d)) (at d) ℕ ℕ anything anything m _ p (λ x _.
+    leads_and (at d) (at (suc d)) (at d) anything anything begin_section (m >>= (λ x. end_section >> pure x)) (leads_begin d)
+    (leads_then (at (suc d)) (at (suc d)) (at d) ℕ ℕ anything anything m (λ x. end_section >> pure x) p (λ x _.
     leads_and (at (suc d)) (at d) (at d) anything anything end_section (pure x) (leads_end d) (leads_pure (at d) ℕ anything x tt)))
 
 -- ---- cells
@@ -229,11 +232,11 @@ pub leads_unlock : (c : Slot) (d : ℕ) → Leads (at d) (at d) (Unit {0}) anyth
 leads_unlock c d = around (write c 0) (λ x. leads_write x c 0) (make action.Open) (outside_made false (spot 0 true) (make action.Open) (leads_opening 0)) d
 
 pub leads_finish : (y : Spot) (A : Type 0) (Q : A → Type 0) → Leads (at 0) y A Q finish
-leads_finish y A Q s here = record { open = false; in_turn = behind_markless false s.actions action.End tt here.marks; closed = λ _. refl }
+leads_finish y A Q s here = record { opened = false; in_turn = behind_markless false s.actions action.End tt here.marks; closed = λ _. refl }
 
 pub leads_exit : (d : ℕ) → Leads (at d) (at d) ℕ anything exit_thread
 leads_exit zero s here = subst (λ (n : ℕ). Comes {A = ℕ} (at 0) anything (cond (nat_eq n 0) finish (ends Bad) s)) (sym here.depth) (leads_finish (at 0) ℕ anything s here)
-leads_exit (suc d) s here = subst (λ (n : ℕ). Comes {A = ℕ} (at (suc d)) anything (cond (nat_eq n 0) finish (ends Bad) s)) (sym here.depth) (stopped (at (suc d)) s here)
+leads_exit (suc d) s here = subst (λ (t : Bool). Comes {A = ℕ} (at (suc d)) anything (cond t finish (ends Bad) s)) (sym (not_outside d true s here)) (stopped (at (suc d)) s here)
 
 pub leads_bool : (x : Spot) → Leads x x ℕ anything any_bool
 leads_bool x =
@@ -250,13 +253,13 @@ leads_join h d =
     (leads_and {B = ℕ} (at d) (at d) (at d) anything anything (make (action.Join h)) (pure 0) (leads_make (at d) (action.Join h) tt) (leads_pure (at d) ℕ anything 0 tt))
 
 pub leads_create : (x : Spot) (g : Setting) (c : Slot) (f v : ℕ) → Leads x x ℕ anything (create g c f v)
-leads_create x g (Own i j) f v s here = (record { depth = here.depth; marks = behind_markless x.open s.actions (action.Create (64 * g.handle + s.created + 1) f v) tt here.marks }, tt)
+leads_create x g (Own i j) f v s here = (record { depth = here.depth; marks = behind_markless x.opened s.actions (action.Create (64 * g.handle + s.created + 1) f v) tt here.marks }, tt)
 leads_create x g (Common c) f v s here = (
   record {
     depth = here.depth;
     marks =
-        behind_markless x.open (s.actions ++ action.Write c (64 * g.handle + s.created + 1) ∷ []) (action.Create (64 * g.handle + s.created + 1) f v) tt
-        (behind_markless x.open s.actions (action.Write c (64 * g.handle + s.created + 1)) tt here.marks);
+        behind_markless x.opened (s.actions ++ action.Write c (64 * g.handle + s.created + 1) ∷ []) (action.Create (64 * g.handle + s.created + 1) f v) tt
+        (behind_markless x.opened s.actions (action.Write c (64 * g.handle + s.created + 1)) tt here.marks);
   },
   tt,
 )

@@ -25,3 +25,4 @@ pub mod Used
 pub mod Levels
 pub mod Unmarked
 pub mod LevelBodies
+pub mod SectionRuns

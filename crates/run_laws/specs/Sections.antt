@@ -16,9 +16,9 @@ AreInTurn before (a ∷ acts) behind = AreInTurn before acts behind
 
 -- so they do where none is open before them; and none is open behind a thread that came to its end
 pub record HasSections (acts : List Action) (ended : Bool) : Type 0 where
-  pub open : Bool
-  pub in_turn : AreInTurn false acts open
-  pub closed : ended ≡ true → open ≡ false
+  pub opened : Bool
+  pub in_turn : AreInTurn false acts opened
+  pub closed : ended ≡ true → opened ≡ false
 
 -- so it is in each run of a checked program; one for which the script is too short has not come to its end
 abbrev pub RunsHaveSections : Type 0

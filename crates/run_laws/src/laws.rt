@@ -15,6 +15,7 @@ ghost use Rattle.run_laws.specs.Frames.{RunsAreFramed, ShortRunsAreFramed};
 ghost use Rattle.run_laws.specs.Short.{ShortRunsGoOn};
 ghost use Rattle.run_laws.specs.Turns.{HigherBoundsGoOn};
 ghost use Rattle.run_laws.specs.Bounded.{ScriptsAreBounded};
+ghost use Rattle.run_laws.specs.Sections.{RunsHaveSections, ShortRunsHaveSections};
 ghost use Rattle.run_laws.specs.Words.{RunsAreOfWords, ShortRunsAreOfWords, StartedRunsAreOfWords, StartedShortRunsAreOfWords, CandidatesAreOfWords};
 
 /// What the check of a program has counted holds of its runs, without an execution: a run of a function
@@ -58,6 +59,14 @@ pub fn scripts_are_bounded()
 /// then its actions are the first ones of the other run, which used at least as many numbers.
 pub fn higher_bounds_go_on()
     ensures { HigherBoundsGoOn }
+{}
+
+/// Open and Close stand in turn in each run of a checked program, an Open first, so no section stands in
+/// another one and none is closed that is not open. A run may stop in a section, but none is open where the
+/// thread came to its end.
+pub fn runs_have_sections()
+    ensures whole { RunsHaveSections }
+    ensures short { ShortRunsHaveSections }
 {}
 
 /// The numbers in the actions of a run are below 2^32 (values, arguments and handles), where its argument,
