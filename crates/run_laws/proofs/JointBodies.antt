@@ -29,7 +29,7 @@ use Rattle.run_model.specs.Meaning.{eval}
 use Rattle.run_model.specs.Statements.{then_next, scoped, after_body, loop, do_loop, first_values, store_from, enter, declare_one, declare_all, eval_if, begin_for, turns, stmt_step, execute, execute_all}
 use Rattle.run_model.specs.Threads.{parameters, result_of, run_body, is_atomic, in_section, call_body, with_function, call_within, context_within}
 use Rattle.run_laws.specs.Leaves.{Leaf, in_all, leaves, in_option, in_start, in_declarators, in_for, stmt_leaves, in_stmt, in_body, in_functions}
-use Rattle.run_laws.proofs.Joint.{Two, one, two, Values, anything, Words, Leaves, Known, known_left, known_right, Closed, Relation, Relates, Premised, Also, Passes, Carries, premised, carries, still, both_then, both_nothing, both_look, both_cond}
+use Rattle.run_laws.proofs.Joint.{Two, one, two, Values, anything, Words, Leaves, Known, known_left, known_right, Closed, Relation, Relates, Premised, Passes, Carries, premised, carries, still, both_then, both_nothing, both_look, both_cond}
 use Rattle.run_laws.proofs.JointMeaning.{meaning_meets}
 
 module _ (g : Two) (v : Values) (c : Closed v) (R : Premised) (k : Carries g v R) where

@@ -1,5 +1,5 @@
 -- What the parts of two runs relate, expressions do.
-use Rattle.std.proofs.Common.{◌≡◌, ℕ, zero, suc, List, [], ◌∷◌, ◌++◌, Option, Some, None, Bool, true, false, map, refl, sym, ap, ◌∙◌, subst, arith}
+use Rattle.std.proofs.Common.{◌≡◌, ℕ, zero, suc, List, [], ◌∷◌, ◌++◌, Option, Some, None, Bool, true, false, map, refl, sym, ap, ◌∙◌, subst}
 use Rattle.std.specs.Prelude.{◌||◌, ◌&&◌, nat_eq}
 use Rattle.dg_base.specs.declared.Place.{Place}
 use Rattle.dg_base.specs.Values.{value_of, is_true, truth_of}

@@ -1,5 +1,5 @@
 -- Statements, calls of functions and bodies end at the depth at which they began, by the rule on sections.
-use Rattle.std.proofs.Common.{◌≡◌, ℕ, zero, suc, ◌+◌, List, [], ◌∷◌, Option, Some, None, Bool, true, false, not, ◌&&◌, ◌||◌, cond, map, length, take, refl, sym, ap, ◌∙◌, subst, inl}
+use Rattle.std.proofs.Common.{◌≡◌, ℕ, zero, suc, List, [], ◌∷◌, Option, Some, None, Bool, true, false, ◌&&◌, ◌||◌, cond, map, length, take, refl, sym, ap, ◌∙◌, subst, inl}
 use Rattle.std.specs.Prelude.{slice_get}
 use Rattle.std.specs.Str.{bytes_eq}
 use Rattle.std.proofs.lemmas.Bool.{false≢true, and_parts}
@@ -24,7 +24,7 @@ use Rattle.c_check.specs.declared.sections.Inside.{Inside}
 use Rattle.c_check.specs.declared.sections.Inside.TheVariants.{Outside, InSection, InItsLoop}
 use Rattle.c_check.specs.declared.sections.Mark.{Mark}
 use Rattle.c_check.specs.declared.sections.Mark.TheVariants.{Begins, Ends, Neither}
-use Rattle.c_check.specs.Sections.{is_outside, may_jump, in_a_loop, begin_name, end_name, call_mark, mark_in, mark_of, first_mark, mark_in_option, mark_in_declarators, mark_in_for, Sectioned, unmarked, is_marked, some_marked, behind_mark, broken_there, in_block, found_in_else, section_step, sectioned, unmatched_in_function, unmatched_in}
+use Rattle.c_check.specs.Sections.{is_outside, may_jump, in_a_loop, begin_name, end_name, mark_in, mark_of, first_mark, mark_in_option, mark_in_declarators, mark_in_for, Sectioned, unmarked, is_marked, some_marked, behind_mark, broken_there, in_block, section_step, sectioned, unmatched_in_function, unmatched_in}
 use Rattle.c_check.specs.declared.checked.Checked.{Checked}
 use Rattle.run_model.specs.declared.state.Flow.{Flow}
 use Rattle.run_model.specs.declared.state.Flow.TheVariants.{Next, Broke, Continued, Returned}
@@ -36,8 +36,7 @@ use Rattle.run_model.specs.Calls.{Meaning, Context, function_named, function_in,
 use Rattle.run_model.specs.Meaning.{call, call_builtin, expr_step, meaning, eval}
 use Rattle.run_model.specs.Statements.{then_next, scoped, after_body, loop, do_loop, declare_all, eval_if, begin_for, turns, stmt_step, execute, execute_all}
 use Rattle.run_model.specs.Threads.{parameters, result_of, run_body, is_atomic, in_section, call_body, with_function, call_within, context_within}
-use Rattle.run_laws.specs.Leaves.{leaves}
-use Rattle.run_laws.proofs.Joint.{Two, one, two, anything, Leaves, Relation, premised, Also, Carries}
+use Rattle.run_laws.proofs.Joint.{Two, one, anything, Leaves, Relation, premised, Carries}
 use Rattle.run_laws.proofs.JointBodies.{eval_meets, eval_if_meets, declare_meets, begin_for_meets}
 use Rattle.run_laws.proofs.Told.{twice}
 use Rattle.run_laws.proofs.Expressions.{both_none, holds_at}

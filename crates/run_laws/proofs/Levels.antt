@@ -1,22 +1,22 @@
 -- What steps do to the depth of sections and to their marks.
-use Rattle.std.proofs.Common.{◌≡◌, ℕ, zero, suc, ◌+◌, ◌-◌, ◌*◌, List, [], ◌∷◌, ◌++◌, Option, Some, None, Bool, true, false, refl, sym, ap, ◌∙◌, subst, append_assoc, inl, arith}
-use Rattle.std.specs.Prelude.{cond, nat_eq, nat_lt, slice_get, unwrap_or}
+use Rattle.std.proofs.Common.{◌≡◌, ℕ, zero, suc, ◌+◌, ◌-◌, ◌*◌, List, [], ◌∷◌, ◌++◌, Option, Some, None, Bool, true, false, refl, sym, subst, arith}
+use Rattle.std.specs.Prelude.{cond, nat_eq, nat_lt}
 use Rattle.std.proofs.lemmas.Bool.{false≢true, ne_eqb}
 use Rattle.dg_base.specs.declared.Place.{Place}
 use Rattle.axiom_model.specs.declared.Action.{Action}
 use Rattle.axiom_model.specs.declared.Action.TheVariants as action
 use Rattle.c_rules.specs.Names.{Name}
 use Rattle.run_model.specs.declared.state.Ending.{Ending}
-use Rattle.run_model.specs.declared.state.Ending.TheVariants.{Ended, Stopped, Failed, Bound, Bad}
+use Rattle.run_model.specs.declared.state.Ending.TheVariants.{Stopped, Bound, Bad}
 use Rattle.run_model.specs.declared.state.Halt.TheVariants.{Over, Short}
 use Rattle.run_model.specs.declared.state.Local.{Local}
 use Rattle.run_model.specs.declared.state.Need.{Need}
-use Rattle.run_model.specs.declared.state.Need.TheVariants.{ReadOf, Go, Truth, Any}
+use Rattle.run_model.specs.declared.state.Need.TheVariants.{ReadOf, Go, Truth}
 use Rattle.run_model.specs.declared.state.Shared.{Shared}
 use Rattle.run_model.specs.declared.state.Slot.{Slot}
 use Rattle.run_model.specs.declared.state.Slot.TheVariants.{Own, Common}
 use Rattle.run_model.specs.Steps.{State, Outcome, Goes, Halts, Step, go_on, ◌>>=◌, ◌>>◌, pure, nothing, look, change, ends, make, take_from, take_number, obey, ask, outside, open_section, begin_section, end_section, stop, fail}
-use Rattle.run_model.specs.Cells.{cells_at, with_cell, read, write, slot, slot_in, slot_in_shared, shared_named, local_named}
+use Rattle.run_model.specs.Cells.{read, write, slot, slot_in, slot_in_shared, shared_named, local_named}
 use Rattle.run_model.specs.Calls.{Setting, hold, lock_cell, unlock_cell, finish, exit_thread, any_bool, create, join, spend}
 use Rattle.run_model.specs.Threads.{has_ended, in_section}
 use Rattle.run_laws.specs.Sections.{AreInTurn, HasSections}

@@ -1,15 +1,14 @@
 -- Open and Close stand in turn in each run of a checked program.
-use Rattle.std.proofs.Common.{◌≡◌, ℕ, List, [], ◌∷◌, Some, None, Bool, false, length, refl, subst}
+use Rattle.std.proofs.Common.{◌≡◌, ℕ, List, [], ◌∷◌, Some, None, false, length, refl, subst}
 use Rattle.std.specs.Prelude.{slice_get}
 use Rattle.axiom_model.specs.declared.Action.TheVariants.{Start}
 use Rattle.axiom_model.specs.Failing.{Run}
 use Rattle.c_tree.specs.declared.program.Function.{Function}
-use Rattle.c_rules.specs.Names.{Name}
 use Rattle.c_rules.specs.Walk.{top_scope}
 use Rattle.c_check.specs.declared.checked.Checked.{Checked}
 use Rattle.c_check.specs.WellFormed.{IsChecked}
 use Rattle.c_check.specs.Sections.{begin_name, end_name}
-use Rattle.run_model.specs.Steps.{State, Outcome, make}
+use Rattle.run_model.specs.Steps.{Outcome, make}
 use Rattle.run_model.specs.Calls.{Setting, finish, function_named}
 use Rattle.run_model.specs.Programs.{setting_of}
 use Rattle.run_model.specs.Threads.{ShortRun, run_body, context_within, thread_steps, thread_run, short_run, begins}

@@ -1,11 +1,10 @@
 -- What calls no begin and no end of a section, and the names of the two.
-use Rattle.std.proofs.Common.{◌≡◌, ℕ, ◌+◌, List, [], ◌∷◌, ◌++◌, Option, Some, None, Bool, true, false, not, ◌&&◌, ◌||◌, cond, map, refl, sym, ap, ◌∙◌, subst, ◌⊎◌, ⊎_elim, inl, inr}
+use Rattle.std.proofs.Common.{◌≡◌, ℕ, ◌+◌, List, [], ◌∷◌, ◌++◌, Option, Some, None, Bool, true, false, not, ◌||◌, cond, map, refl, sym, ap, ◌∙◌, subst, ◌⊎◌, ⊎_elim, inl, inr}
 use Rattle.std.specs.Str.{bytes_eq}
 use Rattle.std.specs.List.{AllByRecursion}
 use Rattle.std.proofs.lemmas.Bool.{false≢true, and_parts, not-true}
 use Rattle.std.proofs.lemmas.Option.{same_Some}
 use Rattle.std.proofs.lemmas.Slice.Eq.{bytes_eq-Decides}
-use Rattle.dg_base.specs.declared.Place.{Place}
 use Rattle.c_tree.specs.declared.expr.Expr.{Expr, fold-roll-Expr, ind-Expr, map-Expr}
 use Rattle.c_tree.specs.declared.expr.Expr.TheOpen.{Expr-F}
 use Rattle.c_tree.specs.declared.expr.Expr.TheViews.{roll-Expr}
@@ -25,7 +24,7 @@ use Rattle.c_rules.specs.Scopes.{First, unless, first_of, rule_walk, once_rules,
 use Rattle.c_check.specs.Sections.{begin_name, end_name, broken_call, mark_step, first_mark, mark_in_option, mark_in_start, mark_in_declarator, mark_in_declarators, mark_in_for}
 use Rattle.c_check.proofs.PlainNames.{all_append}
 use Rattle.run_model.specs.Names.{first_named}
-use Rattle.run_laws.specs.Leaves.{Leaf, Value, Called, in_all, leaves, leaves_step, in_option, in_start, in_declarators, in_for}
+use Rattle.run_laws.specs.Leaves.{Leaf, in_all, leaves, leaves_step, in_option, in_start, in_declarators, in_for}
 use Rattle.run_laws.proofs.Joint.{anything, Values, AtLeaf, Known, Closed}
 use Rattle.run_laws.proofs.Expressions.{both_none, holds_at}
 

@@ -1,11 +1,9 @@
 -- The numbers of a run are words, as long as the handles that it gives are.
-use Rattle.std.proofs.Common.{◌≡◌, ℕ, zero, suc, ◌+◌, ◌-◌, ◌*◌, ◌<◌, ◌≤◌, ◌^◌, List, [], ◌∷◌, ◌++◌, Option, Some, None, Bool, true, false, set, refl, sym, ap, ◌∙◌, subst, inl, arith}
-use Rattle.std.specs.Prelude.{cond, nat_eq, nat_lt, slice_get, unwrap_or, slice_index, replicate, take, All}
+use Rattle.std.proofs.Common.{◌≡◌, ℕ, zero, suc, ◌+◌, ◌-◌, ◌*◌, ◌<◌, ◌≤◌, ◌^◌, List, [], ◌∷◌, ◌++◌, Option, Some, None, Bool, true, false, set, refl, subst, inl, arith}
+use Rattle.std.specs.Prelude.{cond, nat_eq, nat_lt, slice_get, unwrap_or, slice_index, replicate, All}
 use Rattle.std.proofs.lemmas.Option.{slice_get_within, get_or_from_slice_get}
 use Rattle.std.proofs.lemmas.List.Elements.{All-nil, All-head, All-tail, All-push, All-set, All-replicate, All-take}
 use Rattle.dg_base.specs.declared.Place.{Place}
-use Rattle.dg_base.specs.declared.operators.Op.{Op}
-use Rattle.dg_base.specs.Values.{value_of}
 use Rattle.dg_base.proofs.Fits.{operator_fits}
 use Rattle.axiom_model.specs.declared.Action.{Action}
 use Rattle.axiom_model.specs.declared.Action.TheVariants as action
@@ -25,7 +23,7 @@ use Rattle.run_model.specs.Calls.{Setting, hold, lock_cell, unlock_cell, finish,
 use Rattle.run_model.specs.Threads.{parameter, parameters, in_section}
 use Rattle.run_model.proofs.Handles.{state_in}
 use Rattle.run_laws.specs.Words.{IsWord, IsOfWords}
-use Rattle.run_laws.proofs.Joint.{Two, one, anything, Values, Words, Closed, Leaves, Ok, ok_any, Premised, Also, Carries}
+use Rattle.run_laws.proofs.Joint.{Two, one, anything, Values, Words, Closed, Leaves, Ok, Premised, Also, Carries}
 
 -- ---- values
 
