@@ -26,3 +26,4 @@ pub mod Levels
 pub mod Unmarked
 pub mod LevelBodies
 pub mod SectionRuns
+pub mod Belonging

@@ -16,6 +16,7 @@ ghost use Rattle.run_laws.specs.Short.{ShortRunsGoOn};
 ghost use Rattle.run_laws.specs.Turns.{HigherBoundsGoOn};
 ghost use Rattle.run_laws.specs.Bounded.{ScriptsAreBounded};
 ghost use Rattle.run_laws.specs.Sections.{RunsHaveSections, ShortRunsHaveSections};
+ghost use Rattle.run_laws.specs.Belonging.{RunsBelong, ShortRunsBelong};
 ghost use Rattle.run_laws.specs.Words.{RunsAreOfWords, ShortRunsAreOfWords, StartedRunsAreOfWords, StartedShortRunsAreOfWords, CandidatesAreOfWords};
 
 /// What the check of a program has counted holds of its runs, without an execution: a run of a function
@@ -67,6 +68,13 @@ pub fn higher_bounds_go_on()
 pub fn runs_have_sections()
     ensures whole { RunsHaveSections }
     ensures short { ShortRunsHaveSections }
+{}
+
+/// The cells that the actions of a run name are cells of the program, and the functions of its creates are
+/// functions of it.
+pub fn actions_belong_to_programs()
+    ensures whole { RunsBelong }
+    ensures short { ShortRunsBelong }
 {}
 
 /// The numbers in the actions of a run are below 2^32 (values, arguments and handles), where its argument,

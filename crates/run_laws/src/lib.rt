@@ -16,7 +16,8 @@
 mod laws;
 
 pub use laws::{
-    candidates_are_of_words, creates_are_few, creates_differ, higher_bounds_go_on, runs_are_framed,
-    runs_are_of_words, runs_have_sections, scripts_are_bounded, short_runs_go_on,
-    started_creates_differ, started_runs_are_of_words, started_threads_are_limited,
+    actions_belong_to_programs, candidates_are_of_words, creates_are_few, creates_differ,
+    higher_bounds_go_on, runs_are_framed, runs_are_of_words, runs_have_sections,
+    scripts_are_bounded, short_runs_go_on, started_creates_differ, started_runs_are_of_words,
+    started_threads_are_limited,
 };
