@@ -1,5 +1,6 @@
 -- The cells of a run's actions are cells of the program, and the functions of its creates are functions of it.
-use Rattle.std.proofs.Common.{◌≡◌, ℕ, zero, suc, ◌+◌, ◌-◌, ◌*◌, ◌<◌, ◌≤◌, List, [], ◌∷◌, ◌++◌, Option, Some, None, Bool, true, false, map, refl, sym, ap, ◌∙◌, subst, inl, arith, length-append, length-map}
+use Rattle.std.proofs.Common.{◌≡◌, ℕ, zero, suc, ◌+◌, ◌-◌, ◌*◌, ◌<◌, ◌≤◌, List, [], ◌∷◌, ◌++◌, Option, Some, None, Bool, true, false, map, refl, sym, ap, ◌∙◌, subst, inl, arith, length-append}
+use Rattle.std.proofs.lemmas.List.{length-map}
 use Rattle.std.specs.Prelude.{cond, nat_eq, nat_lt, unwrap_or, slice_get, length, All}
 use Rattle.std.specs.List.{AllByRecursion}
 use Rattle.std.proofs.lemmas.Bool.{ltb-true}
@@ -111,7 +112,7 @@ module _ (p : Checked) (handle : ℕ) (some : 0 < length (functions_of p.program
   IsCell (Own i j) = Unit {0}
   IsCell (Common c) = c < length shape.initials
 
-  cell_values : Values
+  abbrev cell_values : Values
   cell_values = record { word = anything; cell = IsCell; locals = anything; calls = anything }
 
   cells_closed : Closed cell_values
