@@ -1,5 +1,5 @@
 -- The cells of a run's actions are cells of the program, and the functions of its creates are functions of it.
-use Rattle.std.proofs.Common.{◌≡◌, ℕ, zero, suc, ◌+◌, ◌-◌, ◌*◌, ◌<◌, ◌≤◌, List, [], ◌∷◌, ◌++◌, Option, Some, None, Bool, true, false, map, refl, sym, ap, ◌∙◌, subst, inl, arith, length-append}
+use Rattle.std.proofs.Common.{◌≡◌, ℕ, zero, suc, ◌+◌, ◌-◌, ◌*◌, ◌<◌, ◌≤◌, List, [], ◌∷◌, ◌++◌, Option, Some, None, Bool, true, false, refl, ap, ◌∙◌, subst, inl, arith, length-append}
 use Rattle.std.proofs.lemmas.List.{length-map}
 use Rattle.std.specs.Prelude.{cond, nat_eq, nat_lt, unwrap_or, slice_get, length, All}
 use Rattle.std.specs.List.{AllByRecursion}
@@ -23,7 +23,8 @@ use Rattle.c_rules.specs.Walk.{cells_of_size}
 use Rattle.c_check.specs.declared.checked.CellInfo.{CellInfo}
 use Rattle.c_check.specs.declared.checked.Checked.{Checked}
 use Rattle.c_check.specs.Checked.{cells_of, cells_of_items, cells_of_declarators, variable_cells, array_cells, first_values}
-use Rattle.c_check.specs.Limits.{cell_count, cells_of_all, shared_cells}
+use Rattle.c_check.specs.Limits.{cell_count, cells_of_all, shared_cells, limits_of}
+use Rattle.c_check.specs.WellFormed.{IsChecked}
 use Rattle.c_check.proofs.PlainNames.{all_append}
 use Rattle.run_model.specs.declared.state.Ending.{Ending}
 use Rattle.run_model.specs.declared.state.Ending.TheVariants.{Ended, Bad}
@@ -32,18 +33,18 @@ use Rattle.run_model.specs.declared.state.Need.TheVariants.{ReadOf, Go, Truth, A
 use Rattle.run_model.specs.declared.state.Shared.{Shared}
 use Rattle.run_model.specs.declared.state.Slot.{Slot}
 use Rattle.run_model.specs.declared.state.Slot.TheVariants.{Own, Common}
-use Rattle.run_model.specs.Names.{find}
-use Rattle.run_model.specs.Steps.{State, Outcome, Goes, Halts, Step, go_on, ◌>>=◌, ◌>>◌, pure, nothing, change, ends, make, take_from, take_number, obey, ask, outside, open_section, begin_section, end_section, stop, fail}
-use Rattle.run_model.specs.Cells.{read, write, slot, slot_in, slot_in_shared, shared_named, local_named}
+use Rattle.run_model.specs.Steps.{State, Outcome, Goes, Halts, Step, go_on, ◌>>=◌, ◌>>◌, pure, nothing, change, ends, make, take_from, take_number, obey, ask, outside, open_section, stop, fail}
+use Rattle.run_model.specs.Cells.{read, write, slot_in, slot_in_shared, shared_named, local_named}
 use Rattle.run_model.specs.Calls.{Setting, hold, lock_cell, unlock_cell, finish, exit_thread, any_bool, create, join, function_named, function_in}
 use Rattle.run_model.specs.Programs.{setting_of, shape_of, shared_variable, shared_declared, shared_from, shared_of}
 use Rattle.run_model.specs.Threads.{ShortRun, run_body, context_within, thread_steps, thread_run, short_run, begins}
 use Rattle.run_model.proofs.Handles.{state_in}
 use Rattle.run_laws.specs.Belonging.{BelongsTo}
 use Rattle.run_laws.specs.Leaves.{Leaf, Value, Called, in_functions}
-use Rattle.run_laws.proofs.Joint.{one, anything, Values, Known, Closed, Ok, ok_any, Relation, Relates}
+use Rattle.run_laws.proofs.Joint.{one, anything, Values, Known, Closed, Ok, Relation, Relates}
 use Rattle.run_laws.proofs.JointBodies.{thread_body_meets}
 use Rattle.run_laws.proofs.Steady.{found}
+use Rattle.run_laws.proofs.Mains.{all_kept}
 use Rattle.run_laws.proofs.Told.{twice, Ran, RanShort, ran, ran_short}
 
 -- ---- cells of a program
@@ -67,6 +68,15 @@ cells_length [] = refl
 cells_length (item.Function f ∷ xs) = cells_length xs
 cells_length (item.Prototype p w n ∷ xs) = cells_length xs
 cells_length (item.Shared d ∷ xs) = omega (arith, length-append (cells_of_declarators d.declarators) (cells_of_items xs), declared_length d.declarators, cells_length xs)
+
+same_cells : (p : Checked) → length (shape_of p.program).initials ≡ shared_cells p.program.items
+same_cells p = length-map (cells_of p.program) (λ (c : CellInfo). c.initial) ∙ cells_length p.program.items
+
+-- a checked program keeps the limit on shared cells
+pub cells_few : (p : Checked) → IsChecked p → length (shape_of p.program).initials ≤ 1024
+cells_few p checked =
+    let low : shared_cells p.program.items ≤ 1024 = (all_kept (limits_of p.k p.program) checked.well_formed.limits).1.0 in
+    omega (arith, same_cells p, low)
 
 -- ---- shared variables
 
@@ -103,9 +113,6 @@ module _ (p : Checked) (handle : ℕ) (some : 0 < length (functions_of p.program
 
   abbrev cells : ℕ
   cells = shared_cells p.program.items
-
-  same_cells : length shape.initials ≡ cells
-  same_cells = length-map (cells_of p.program) (λ (c : CellInfo). c.initial) ∙ cells_length p.program.items
 
   -- a shared cell of the program
   abbrev IsCell : Slot → Type 0
@@ -203,7 +210,7 @@ module _ (p : Checked) (handle : ℕ) (some : 0 < length (functions_of p.program
   adding_write (Common c) x h s here = adding_make (action.Write c x) h s here
 
   in_shared : (w : Place) (v : Shared) (i : ℕ) (t : Bool) → nat_lt i v.count ≡ t → Fits cells v → Adding Slot IsCell (cond t (pure (Common (v.first + i))) (fail w))
-  in_shared w v i true e fits s here = let less : i < v.count = ltb-true i v.count e in (here, omega (arith, less, fits, same_cells))
+  in_shared w v i true e fits s here = let less : i < v.count = ltb-true i v.count e in (here, omega (arith, less, fits, same_cells p))
   in_shared w v i false e fits s here = (here, tt)
 
   adding_shared : (w : Place) (o : Option Shared) → ((v : Shared) → o ≡ Some v → Fits cells v) → (i : ℕ) → Adding Slot IsCell (slot_in_shared w o i)
@@ -261,7 +268,7 @@ module _ (p : Checked) (handle : ℕ) (some : 0 < length (functions_of p.program
   adding_create (Own i j) f x h known s here = (All-push (BelongsTo shape) s.actions (action.Create (64 * handle + s.created + 1) f x) here known, tt)
   adding_create (Common c) f x h known s here = (
     All-push (BelongsTo shape) (s.actions ++ action.Write c (64 * handle + s.created + 1) ∷ []) (action.Create (64 * handle + s.created + 1) f x)
-    (All-push (BelongsTo shape) s.actions (action.Write c (64 * handle + s.created + 1)) here h) known,
+        (All-push (BelongsTo shape) s.actions (action.Write c (64 * handle + s.created + 1)) here h) known,
     tt,
   )
 

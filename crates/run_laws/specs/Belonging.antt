@@ -1,10 +1,11 @@
 -- What actions name is of the program.
-use Rattle.std.specs.Prelude.{◌≡◌, ℕ, ◌<◌, List, Some, All, length}
+use Rattle.std.specs.Prelude.{◌≡◌, ℕ, ◌<◌, ◌≤◌, List, Some, All, length}
 use Rattle.axiom_model.specs.declared.Action.{Action}
 use Rattle.axiom_model.specs.declared.Action.TheVariants.{Read, Write, Create}
 use Rattle.axiom_model.specs.WellMade.{Shape}
 use Rattle.axiom_model.specs.Failing.{Run}
 use Rattle.c_check.specs.declared.checked.Checked.{Checked}
+use Rattle.c_check.specs.WellFormed.{IsChecked}
 use Rattle.run_model.specs.Programs.{shape_of}
 use Rattle.run_model.specs.Threads.{ShortRun, thread_run, short_run}
 
@@ -21,3 +22,7 @@ RunsBelong = (p : Checked) (f handle arg : ℕ) (script : List ℕ) (r : Run) �
 
 abbrev pub ShortRunsBelong : Type 0
 ShortRunsBelong = (p : Checked) (f handle arg : ℕ) (script : List ℕ) (s : ShortRun) → short_run p f handle arg script ≡ Some s → All (BelongsTo (shape_of p.program)) s.actions
+
+-- a checked program has few cells
+abbrev pub CellsAreFew : Type 0
+CellsAreFew = (p : Checked) → IsChecked p → length (shape_of p.program).initials ≤ 1024

@@ -16,7 +16,7 @@ ghost use Rattle.run_laws.specs.Short.{ShortRunsGoOn};
 ghost use Rattle.run_laws.specs.Turns.{HigherBoundsGoOn};
 ghost use Rattle.run_laws.specs.Bounded.{ScriptsAreBounded};
 ghost use Rattle.run_laws.specs.Sections.{RunsHaveSections, ShortRunsHaveSections};
-ghost use Rattle.run_laws.specs.Belonging.{RunsBelong, ShortRunsBelong};
+ghost use Rattle.run_laws.specs.Belonging.{RunsBelong, ShortRunsBelong, CellsAreFew};
 ghost use Rattle.run_laws.specs.Words.{RunsAreOfWords, ShortRunsAreOfWords, StartedRunsAreOfWords, StartedShortRunsAreOfWords, CandidatesAreOfWords};
 
 /// What the check of a program has counted holds of its runs, without an execution: a run of a function
@@ -70,11 +70,12 @@ pub fn runs_have_sections()
     ensures short { ShortRunsHaveSections }
 {}
 
-/// The cells that the actions of a run name are cells of the program, and the functions of its creates are
-/// functions of it.
+/// The cells that the actions of a run name are cells of the program, of which a checked one has at most
+/// 1024, and the functions of its creates are functions of it.
 pub fn actions_belong_to_programs()
     ensures whole { RunsBelong }
     ensures short { ShortRunsBelong }
+    ensures few_cells { CellsAreFew }
 {}
 
 /// The numbers in the actions of a run are below 2^32 (values, arguments and handles), where its argument,

@@ -6,11 +6,16 @@
 //! `run_model` stay within that count. The limits count the threads that main leads to, and no others,
 //! so these laws are of functions that main leads to (`specs/Started`), and through these of candidates.
 //!
-//! The other laws are of every run, of any program: where Start and End stand (`specs/Frames`), how a run
-//! goes on for which the script is too short (`specs/Short`), how many numbers runs use
-//! (`specs/Bounded`), and the run for one bound on loops beside the run for another (`specs/Turns`).
-//! But for the count of numbers they share one induction over all forms (`proofs/Joint`), which relates
-//! two runs.
+//! Two laws are of what the static rules are for: sections open and close in turn (`specs/Sections`), and
+//! the numbers in actions have 32 bits (`specs/Words`).
+//!
+//! The other laws are of every run, of any program: where Start and End stand (`specs/Frames`), which cells
+//! and functions actions name (`specs/Belonging`), how a run goes on for which the script is too short
+//! (`specs/Short`), how many numbers runs use (`specs/Bounded`), and the run for one bound on loops beside
+//! the run for another (`specs/Turns`).
+//!
+//! But for the counts of creates and of numbers, and the statements of sections, the laws share one
+//! induction over all forms (`proofs/Joint`), which relates two runs.
 #![tactic(auto)]
 
 mod laws;
