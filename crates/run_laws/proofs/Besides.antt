@@ -24,7 +24,8 @@ use Rattle.run_model.specs.Threads.{run_body, context_within, thread_steps, thre
 use Rattle.run_model.proofs.Kept.{Keeps, kept_stop, kept_fail, kept_begin, kept_finish_section, kept_read, kept_write, kept_slot, kept_lock, kept_unlock, kept_exit, kept_bool, kept_join, kept_finish}
 use Rattle.run_laws.specs.Short.{IsBehind, actions_in}
 use Rattle.run_laws.specs.Turns.{IsSpent, used_in, SpentBefore, Beside}
-use Rattle.run_laws.proofs.Joint.{Two, one, two, anything, Leaves, no_values, no_values_closed, Ok, ok_any, Relation, Passes, Relates}
+use Rattle.run_laws.specs.Leaves.{in_functions}
+use Rattle.run_laws.proofs.Joint.{Two, one, two, anything, Leaves, no_values, no_values_closed, nothing_known, Ok, ok_any, Relation, Passes, Relates}
 use Rattle.run_laws.proofs.JointBodies.{thread_body_meets}
 use Rattle.run_laws.proofs.Resuming.{behind_both, behind_same}
 
@@ -174,7 +175,7 @@ module _ (p q : Checked) (handle : ℕ) (low : p.k ≤ q.k) where
     thread_side : (h : Function) → slice_get g.functions f ≡ Some h → Side p.full ⊥ anything (begins script) (thread_steps (one g) h arg (begins script)) (thread_steps (two g) h arg (begins script))
     thread_side h is =
         let n : ℕ = length g.functions in
-        let body = thread_body_meets g no_values no_values_closed R side_relates (λ x c. tt) n f h is arg tt in
+        let body = thread_body_meets g no_values no_values_closed R side_relates (nothing_known (in_functions g.functions)) n f h is arg tt in
         let behind = side_relates.of_then ℕ ⊥ anything anything (run_body (context_within n (one g)) h (arg ∷ [])) (run_body (context_within n (two g)) h (arg ∷ [])) (λ _. finish) (λ _. finish) body (λ _ _. finish_side) in
         side_relates.of_then (Unit {0}) ⊥ anything anything (make action.Start) (make action.Start) _ _ start_side (λ _ _. behind) (begins script)
 

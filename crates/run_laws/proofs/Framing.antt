@@ -24,7 +24,8 @@ use Rattle.run_model.specs.Programs.{setting_of}
 use Rattle.run_model.specs.Threads.{ShortRun, has_ended, run_body, context_within, thread_run, short_run}
 use Rattle.run_model.proofs.Handles.{state_in}
 use Rattle.run_laws.specs.Frames.{IsInner, last_of, IsFramed}
-use Rattle.run_laws.proofs.Joint.{one, two, anything, no_values, no_values_closed, Ok, ok_any, Relation, Relates}
+use Rattle.run_laws.specs.Leaves.{in_functions}
+use Rattle.run_laws.proofs.Joint.{one, two, anything, no_values, no_values_closed, nothing_known, Ok, ok_any, Relation, Relates}
 use Rattle.run_laws.proofs.JointBodies.{thread_body_meets}
 use Rattle.run_laws.proofs.Told.{twice, started, Ran, RanShort, ran, ran_short}
 
@@ -78,11 +79,11 @@ frames_cond A false m n p q = q
 ends_framed : (e : Ending) → has_ended e ≡ false → (s : State) → Framed (last_of (has_ended e)) s s
 ends_framed e h s = subst (λ (b : Bool). Framed (last_of b) s s) (sym h) (none_made s s refl)
 
-quiet : (b : Bool) → has_ended (cond b Stopped Bad) ≡ false
+pub quiet : (b : Bool) → has_ended (cond b Stopped Bad) ≡ false
 quiet true = refl
 quiet false = refl
 
-quiet_bound : (p : Place) (b c : Bool) → has_ended (cond b (Bound p) (cond c Stopped Bad)) ≡ false
+pub quiet_bound : (p : Place) (b c : Bool) → has_ended (cond b (Bound p) (cond c Stopped Bad)) ≡ false
 quiet_bound p true c = refl
 quiet_bound p false c = quiet c
 
@@ -223,7 +224,7 @@ module _ (p : Checked) (f handle arg : ℕ) (script : List ℕ) where
   pub run_framed : (r : Run) → thread_run p f handle arg script ≡ Some r → IsFramed r.actions r.ended
   run_framed r e =
       let it : Ran p f handle arg script r = ran p f handle arg script r e in
-      let body = thread_body_meets (twice p handle) no_values no_values_closed Frame (frame_relates p handle) (λ x c. tt) (length (setting_of p handle).functions) f it.function it.is arg tt in
+      let body = thread_body_meets (twice p handle) no_values no_values_closed Frame (frame_relates p handle) (nothing_known (in_functions (twice p handle).functions)) (length (setting_of p handle).functions) f it.function it.is arg tt in
       let steps = frames_then ℕ ⊥ (run_body (context_within (length (setting_of p handle).functions) (setting_of p handle)) it.function (arg ∷ [])) (λ _. finish) (λ s. (body s).0) (λ _. frames_finish ⊥) (started script) in
       let over : Framed (last_of (has_ended it.ending)) (started script) it.state = subst (λ (o : Outcome ⊥). Framed (tail o) (started script) (state_in o)) it.goes steps in
       subst (λ (r : Run). IsFramed r.actions r.ended) it.run (whole_framed (Halts (Over it.ending) it.state) over (has_ended it.ending) refl)
@@ -231,7 +232,7 @@ module _ (p : Checked) (f handle arg : ℕ) (script : List ℕ) where
   pub short_run_framed : (r : ShortRun) → short_run p f handle arg script ≡ Some r → IsFramed r.actions false
   short_run_framed r e =
       let it : RanShort p f handle arg script r = ran_short p f handle arg script r e in
-      let body = thread_body_meets (twice p handle) no_values no_values_closed Frame (frame_relates p handle) (λ x c. tt) (length (setting_of p handle).functions) f it.function it.is arg tt in
+      let body = thread_body_meets (twice p handle) no_values no_values_closed Frame (frame_relates p handle) (nothing_known (in_functions (twice p handle).functions)) (length (setting_of p handle).functions) f it.function it.is arg tt in
       let steps = frames_then ℕ ⊥ (run_body (context_within (length (setting_of p handle).functions) (setting_of p handle)) it.function (arg ∷ [])) (λ _. finish) (λ s. (body s).0) (λ _. frames_finish ⊥) (started script) in
       let over : Framed [] (started script) it.state = subst (λ (o : Outcome ⊥). Framed (tail o) (started script) (state_in o)) it.goes steps in
       subst (λ (r : ShortRun). IsFramed r.actions false) it.run (whole_framed (Halts (Short it.need) it.state) over false refl)

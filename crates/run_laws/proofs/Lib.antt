@@ -14,9 +14,16 @@ pub mod Reached
 pub mod Joint
 pub mod JointMeaning
 pub mod JointBodies
+pub mod Wording
+pub mod WordRuns
 pub mod Told
 pub mod Framing
 pub mod Resuming
 pub mod Besides
 pub mod Using
 pub mod Used
+pub mod Levels
+pub mod Unmarked
+pub mod LevelBodies
+pub mod SectionRuns
+pub mod Belonging

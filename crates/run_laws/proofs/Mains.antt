@@ -28,7 +28,7 @@ kept_at true l ls e = absurd (let no : ◌≡◌ {A = Option Limited} (Some l) N
 kept_at false l ls e = (refl, e)
 
 -- where no limit is exceeded, each is kept
-all_kept : (ls : List Limited) → first_exceeded ls ≡ None → AllByRecursion (λ (l : Limited). l.count ≤ l.limit) ls
+pub all_kept : (ls : List Limited) → first_exceeded ls ≡ None → AllByRecursion (λ (l : Limited). l.count ≤ l.limit) ls
 all_kept [] e = tt
 all_kept (l ∷ ls) e = let parts = kept_at (nat_lt l.limit l.count) l ls e in (ltb-false l.limit l.count parts.0, all_kept ls parts.1)
 

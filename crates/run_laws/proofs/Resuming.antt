@@ -25,7 +25,8 @@ use Rattle.run_model.specs.Programs.{setting_of}
 use Rattle.run_model.specs.Threads.{ShortRun, run_body, context_within, thread_steps, thread_outcome, outcome_of, short_run, begins}
 use Rattle.run_model.proofs.Scripts.{with_script}
 use Rattle.run_laws.specs.Short.{IsBehind, IsWaited, actions_in, EndsAs, Obeys, Chooses, Follows}
-use Rattle.run_laws.proofs.Joint.{one, anything, no_values, no_values_closed, Relation, Relates}
+use Rattle.run_laws.specs.Leaves.{in_functions}
+use Rattle.run_laws.proofs.Joint.{one, anything, no_values, no_values_closed, nothing_known, Relation, Relates}
 use Rattle.run_laws.proofs.JointBodies.{thread_body_meets}
 use Rattle.run_laws.proofs.Told.{twice, RanShort, ran_short}
 
@@ -316,7 +317,7 @@ module _ (p : Checked) (f handle arg : ℕ) (script : List ℕ) where
   thread_resumes h is =
       resume_and {B = ⊥} anything anything (make action.Start) _ (resume_make action.Start)
       (resume_then ℕ ⊥ anything anything (run_body (context_within (length g.functions) g) h (arg ∷ [])) (λ _. finish)
-      (thread_body_meets (twice p handle) no_values no_values_closed Resume (resume_relates p handle) (λ x c. tt) (length g.functions) f h is arg tt) (λ _ _. resume_finish ⊥ anything))
+      (thread_body_meets (twice p handle) no_values no_values_closed Resume (resume_relates p handle) (nothing_known (in_functions g.functions)) (length g.functions) f h is arg tt) (λ _ _. resume_finish ⊥ anything))
       (begins script) script
 
   pub short_run_goes_on : (r : ShortRun) → short_run p f handle arg script ≡ Some r → (v : ℕ) (others : List ℕ) (o : Outcome ⊥) → thread_outcome p f handle arg (script ++ v ∷ others) ≡ Some o → Follows r.needs v r.actions o

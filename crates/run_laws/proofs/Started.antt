@@ -9,7 +9,7 @@ use Rattle.axiom_model.specs.Failing.{Run}
 use Rattle.c_rules.specs.Names.{functions_of}
 use Rattle.c_check.specs.declared.checked.Checked.{Checked}
 use Rattle.c_check.specs.WellFormed.{IsChecked}
-use Rattle.run_model.specs.Threads.{thread_run}
+use Rattle.run_model.specs.Threads.{ShortRun, thread_run, short_run}
 use Rattle.run_model.specs.Laws.{creates_in}
 use Rattle.run_model.proofs.Handles.{run_is_numbered}
 use Rattle.run_model.proofs.Creates.{first_is, numbered_at, before, few_before}
@@ -18,7 +18,7 @@ use Rattle.run_laws.proofs.Growing.{CreatesOf}
 use Rattle.run_laws.proofs.Differing.{apart, differ}
 use Rattle.run_laws.proofs.FunctionCounts.{counts_for}
 use Rattle.run_laws.proofs.Expressions.{Low}
-use Rattle.run_laws.proofs.Threads.{at_level, Fine, run_few}
+use Rattle.run_laws.proofs.Threads.{at_level, Fine, run_few, short_few}
 use Rattle.run_laws.proofs.Mains.{main_fine}
 
 -- ---- one create of a list of actions
@@ -67,6 +67,16 @@ module _ (p : Checked) (checked : IsChecked p) where
 
   pub started_create_few : (d f handle arg : ℕ) (script : List ℕ) (r : Run) → IsStarted p d f → thread_run p f handle arg script ≡ Some r → creates_in r.actions ≤ 63
   started_create_few d f handle arg script r s e = (run_fine 0 d f handle arg script r (started_fine d f s (deep 0)) e).0
+
+  short_few_at : (d f handle arg n : ℕ) (script : List ℕ) (s : ShortRun) (fine : Fine p (deep 0) d f) → fine.fuel ≡ n → short_run p f handle arg script ≡ Some s → creates_in s.actions ≤ 63
+  short_few_at d f handle arg zero script s fine is e = absurd (omega (arith, is, fine.enough))
+  short_few_at d f handle arg (suc m) script s fine is e =
+      let low = subst (λ (n : ℕ). Low (at_level d) (counts_for p n f)) is fine.low in
+      let few : (counts_for p (suc m) f).creates ≤ 63 = subst (λ (n : ℕ). (counts_for p n f).creates ≤ 63) is fine.few in
+      omega (arith, short_few p handle 0 d checked.well_formed.typed m f arg script s (omega (arith, is, fine.enough)) low e, few)
+
+  pub started_short_few : (d f handle arg : ℕ) (script : List ℕ) (s : ShortRun) → IsStarted p d f → short_run p f handle arg script ≡ Some s → creates_in s.actions ≤ 63
+  started_short_few d f handle arg script s started e = let fine = started_fine d f started (deep 0) in short_few_at d f handle arg fine.fuel script s fine refl e
 
   pub started_shallow : (d f : ℕ) → IsStarted p d f → d ≤ 4
   started_shallow d f s = (started_fine d f s 0).level

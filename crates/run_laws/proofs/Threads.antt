@@ -19,7 +19,7 @@ use Rattle.run_model.specs.declared.state.Halt.TheVariants.{Over, Short}
 use Rattle.run_model.specs.Steps.{State, Outcome, Goes, Halts, make}
 use Rattle.run_model.specs.Calls.{Setting, finish}
 use Rattle.run_model.specs.Programs.{setting_of}
-use Rattle.run_model.specs.Threads.{call_within, call_body, run_body, with_function, context_within, thread_steps, thread_run, outcome_of, run_in, run_with, begins}
+use Rattle.run_model.specs.Threads.{ShortRun, call_within, call_body, run_body, with_function, context_within, thread_steps, thread_run, short_run, outcome_of, run_in, run_with, begins}
 use Rattle.run_model.specs.Laws.{creates_in}
 use Rattle.run_model.proofs.Kept.{kept_finish}
 use Rattle.run_model.proofs.Handles.{Numbers, numbers_keeps, state_in}
@@ -29,6 +29,7 @@ use Rattle.run_laws.proofs.Meanings.{behind, before}
 use Rattle.run_laws.proofs.Expressions.{both_none, Bound, Low, Bounds}
 use Rattle.run_laws.proofs.FunctionCounts.{counts_for, bodies, body_counts, named_counts, counts_are}
 use Rattle.run_laws.proofs.Bodies.{run_body_within, call_body_within}
+use Rattle.run_laws.proofs.Told.{RanShort, ran_short}
 
 -- ---- a program that fits its types
 
@@ -151,3 +152,13 @@ module _ (p : Checked) (handle least d : ℕ) (typed : IsTyped p.program) where
   -- the same for its run
   pub run_few : (m f arg : ℕ) (script : List ℕ) (r : Run) → least + length g.functions ≤ m → Kept (counts_for p (suc m) f) → thread_run p f handle arg script ≡ Some r → Few (counts_for p (suc m) f).creates r
   run_few m f arg script r low kept e = run_few_at m f arg script r (slice_get g.functions f) refl low kept e
+
+  -- and for a run for which the script is too short
+  pub short_few : (m f arg : ℕ) (script : List ℕ) (s : ShortRun) → least + length g.functions ≤ m → Kept (counts_for p (suc m) f) → short_run p f handle arg script ≡ Some s → creates_in s.actions ≤ (counts_for p (suc m) f).creates
+  short_few m f arg script s low kept e =
+      let n : ℕ = (counts_for p (suc m) f).creates in
+      let it : RanShort p f handle arg script s = ran_short p f handle arg script s e in
+      let grows : Grows Made n (begins script) it.state =
+      subst (λ (o : Outcome ⊥). Grows Made n (begins script) (state_in o)) it.goes ((thread_limited m f it.function arg low it.is kept).adds (begins script))
+      in
+      subst (λ (s : ShortRun). creates_in s.actions ≤ n) it.run (subst (λ acts. creates_in acts ≤ n) (sym grows.actions) grows.few)

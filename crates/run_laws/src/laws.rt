@@ -15,6 +15,9 @@ ghost use Rattle.run_laws.specs.Frames.{RunsAreFramed, ShortRunsAreFramed};
 ghost use Rattle.run_laws.specs.Short.{ShortRunsGoOn};
 ghost use Rattle.run_laws.specs.Turns.{HigherBoundsGoOn};
 ghost use Rattle.run_laws.specs.Bounded.{ScriptsAreBounded};
+ghost use Rattle.run_laws.specs.Sections.{RunsHaveSections, ShortRunsHaveSections};
+ghost use Rattle.run_laws.specs.Belonging.{RunsBelong, ShortRunsBelong, CellsAreFew};
+ghost use Rattle.run_laws.specs.Words.{RunsAreOfWords, ShortRunsAreOfWords, StartedRunsAreOfWords, StartedShortRunsAreOfWords, CandidatesAreOfWords};
 
 /// What the check of a program has counted holds of its runs, without an execution: a run of a function
 /// that main leads to creates at most 63 threads, at most four creations lie between main and such a
@@ -57,6 +60,42 @@ pub fn scripts_are_bounded()
 /// then its actions are the first ones of the other run, which used at least as many numbers.
 pub fn higher_bounds_go_on()
     ensures { HigherBoundsGoOn }
+{}
+
+/// Open and Close stand in turn in each run of a checked program, an Open first, so no section stands in
+/// another one and none is closed that is not open. A run may stop in a section, but none is open where the
+/// thread came to its end.
+pub fn runs_have_sections()
+    ensures whole { RunsHaveSections }
+    ensures short { ShortRunsHaveSections }
+{}
+
+/// The cells that the actions of a run name are cells of the program, of which a checked one has at most
+/// 1024, and the functions of its creates are functions of it.
+pub fn actions_belong_to_programs()
+    ensures whole { RunsBelong }
+    ensures short { ShortRunsBelong }
+    ensures few_cells { CellsAreFew }
+{}
+
+/// The numbers in the actions of a run are below 2^32 (values, arguments and handles), where its argument,
+/// its script, the program's constants and the handles that it gives are.
+pub fn runs_are_of_words()
+    ensures whole { RunsAreOfWords }
+    ensures short { ShortRunsAreOfWords }
+{}
+
+/// A started function of a checked program gives few handles and low ones, so only the argument, the script
+/// and the constants count.
+pub fn started_runs_are_of_words()
+    ensures whole { StartedRunsAreOfWords }
+    ensures short { StartedShortRunsAreOfWords }
+{}
+
+/// In a well made candidate of a checked program, whose scripts and constants are below 2^32, so are the
+/// threads' arguments and the numbers in their actions.
+pub fn candidates_are_of_words()
+    ensures { CandidatesAreOfWords }
 {}
 
 /// Each thread of a well made candidate of a checked program creates at most 63 threads.

@@ -6,16 +6,23 @@
 //! `run_model` stay within that count. The limits count the threads that main leads to, and no others,
 //! so these laws are of functions that main leads to (`specs/Started`), and through these of candidates.
 //!
-//! The other laws are of every run, of any program: where Start and End stand (`specs/Frames`), how a run
-//! goes on for which the script is too short (`specs/Short`), how many numbers runs use
-//! (`specs/Bounded`), and the run for one bound on loops beside the run for another (`specs/Turns`).
-//! But for the count of numbers they share one induction over all forms (`proofs/Joint`), which relates
-//! two runs.
+//! Two laws are of what the static rules are for: sections open and close in turn (`specs/Sections`), and
+//! the numbers in actions have 32 bits (`specs/Words`).
+//!
+//! The other laws are of every run, of any program: where Start and End stand (`specs/Frames`), which cells
+//! and functions actions name (`specs/Belonging`), how a run goes on for which the script is too short
+//! (`specs/Short`), how many numbers runs use (`specs/Bounded`), and the run for one bound on loops beside
+//! the run for another (`specs/Turns`).
+//!
+//! But for the counts of creates and of numbers, and the statements of sections, the laws share one
+//! induction over all forms (`proofs/Joint`), which relates two runs.
 #![tactic(auto)]
 
 mod laws;
 
 pub use laws::{
-    creates_are_few, creates_differ, higher_bounds_go_on, runs_are_framed, scripts_are_bounded,
-    short_runs_go_on, started_creates_differ, started_threads_are_limited,
+    actions_belong_to_programs, candidates_are_of_words, creates_are_few, creates_differ,
+    higher_bounds_go_on, runs_are_framed, runs_are_of_words, runs_have_sections,
+    scripts_are_bounded, short_runs_go_on, started_creates_differ, started_runs_are_of_words,
+    started_threads_are_limited,
 };
