@@ -4,10 +4,11 @@ pub mod Evident
 pub mod Unbroken
 pub mod Spelled
 pub mod Replays
+pub mod Functions
+pub mod Constants
 pub mod Sorting
 pub mod Written
 pub mod Settings
-pub mod Functions
 pub mod Forms
 pub mod Verdicts
 pub mod Decided

@@ -28,6 +28,7 @@ use Rattle.c_check.specs.WellFormed.{IsChecked}
 use Rattle.c_check.proofs.PlainNames.{all_map}
 use Rattle.run_model.specs.Programs.{shape_of}
 use Rattle.run_model.specs.Threads.{ProgramFails, thread_run}
+use Rattle.run_laws.specs.Words.{CandidatesAreOfWords, IsCandidateOfWords, IsWord}
 use Rattle.exec_check.specs.Conditions.{HasThreads}
 use Rattle.exec_check.specs.Running.{execution_in, run_by, runs_of, shape}
 use Rattle.exec_check.proofs.Events.{at_most_cases, below_decides}
@@ -36,8 +37,9 @@ use Rattle.exec_check.proofs.Shaped.{cells_shaped, functions_shaped, shape_is}
 use Rattle.exec_check.proofs.Whole.{has_threads, part_at}
 use Rattle.witness_text.specs.Spelling.{HasEventNumbers, HasNumbers, HasPairNumbers, HasThreadNumbers, IsNumber, IsSpellable, event_before, handle_before, is_action, reader_before, rises, rises_from}
 use Rattle.witness_text.specs.Witness.{witness_text}
-use Rattle.answer_laws.specs.Spelled.{FailingIsSpelled, HasShortRuns, IsSpelledFailure}
+use Rattle.answer_laws.specs.Spelled.{AcceptedHasWordConstants, FailingIsSpelled, HasShortRuns, IsSpelledFailure}
 use Rattle.answer_laws.proofs.Evident.{all_at}
+use Rattle.answer_laws.proofs.Functions.{few_functions}
 use Rattle.answer_laws.proofs.Sorting.{AllApart, Apart, Sorted, apart_from, sorted}
 
 -- ---- lists
@@ -72,7 +74,7 @@ acts : (x : Execution) (e : Event) → IsAction x e → is_action e ≡ true
 acts x Initial a = absurd (none-some a.0 a.1)
 acts x (At h i) a = refl
 
-module _ (p : Checked) (m : MemoryModel) (c : Candidate) (checked : IsChecked p) (few : length p.functions ≤ 2 ^ 32) (x : ProgramFails p m c) (small : HasShortRuns c x.allowed.threads) where
+module _ (p : Checked) (m : MemoryModel) (c : Candidate) (checked : IsChecked p) (few : length p.functions ≤ 65536) (x : ProgramFails p m c) (words : IsCandidateOfWords c x.allowed.threads) (few_actions : HasShortRuns x.allowed.threads) where
   abbrev seen : Execution
   seen = execution_in p c
 
@@ -86,7 +88,7 @@ module _ (p : Checked) (m : MemoryModel) (c : Candidate) (checked : IsChecked p)
   threads = has_threads p c made
 
   short : (k : ℕ) (r : Run) → slice_get (runs_of p c.threads) k ≡ Some r → length r.actions ≤ 2 ^ 32
-  short = subst (λ (rs : List Run). (k : ℕ) (r : Run) → slice_get rs k ≡ Some r → length r.actions ≤ 2 ^ 32) same_runs small.lengths
+  short = subst (λ (rs : List Run). (k : ℕ) (r : Run) → slice_get rs k ≡ Some r → length r.actions ≤ 2 ^ 32) same_runs few_actions
 
   -- ---- numbers
 
@@ -116,7 +118,7 @@ module _ (p : Checked) (m : MemoryModel) (c : Candidate) (checked : IsChecked p)
       record {
         handle = omega (arith, known.1);
         function = omega (arith, known.0, functions, few);
-        arg = small.arguments k t e;
+        arg = all_at (λ (u : ThreadPart). IsWord u.arg) c.threads k t words.arguments e;
         script = recursion_from_All IsNumber t.script (all_at (λ (u : ThreadPart). All (λ v. v < 2 ^ 32) u.script) c.threads k t x.allowed.words e);
       }
 
@@ -189,5 +191,9 @@ module _ (p : Checked) (m : MemoryModel) (c : Candidate) (checked : IsChecked p)
     spells = record { numbers = numbers; spellable = spellable; spelled = refl };
   }
 
-pub failing_is_spelled : FailingIsSpelled
-failing_is_spelled p m c checked few x small = spelled p m c checked few x small
+module _ (of_words : CandidatesAreOfWords) (constants : AcceptedHasWordConstants) where
+  pub failing_is_spelled : FailingIsSpelled
+  failing_is_spelled bound full text p m c acc x short =
+      let a = x.allowed in
+      let words = of_words p c a.threads acc.checked (constants bound full text p acc) a.words a.whole a.well_made in
+      spelled p m c acc.checked (few_functions bound full text p acc) x words short

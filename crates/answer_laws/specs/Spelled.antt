@@ -1,19 +1,22 @@
 -- Failing executions that have a text.
-use Rattle.std.specs.Prelude.{◌≡◌, ℕ, ◌<◌, ◌≤◌, ◌^◌, List, Some, length, slice_get}
+use Rattle.std.specs.Prelude.{◌≡◌, ℕ, ◌≤◌, ◌^◌, Bool, List, Some, length, slice_get}
 use Rattle.axiom_model.specs.declared.MemoryModel.{MemoryModel}
-use Rattle.axiom_model.specs.declared.ThreadPart.{ThreadPart}
 use Rattle.axiom_model.specs.declared.Candidate.{Candidate}
 use Rattle.axiom_model.specs.Failing.{Run}
 use Rattle.c_check.specs.declared.checked.Checked.{Checked}
 use Rattle.c_check.specs.PlainNames.{cell_names}
-use Rattle.c_check.specs.WellFormed.{IsChecked}
 use Rattle.run_model.specs.Threads.{ProgramFails}
+use Rattle.run_laws.specs.Words.{HasWordConstants}
 use Rattle.witness_text.specs.Spelling.{Spells}
+use Rattle.c_program.specs.Accepting.{IsAccepted}
 
--- the arguments of the threads have 32 bits, and so have the places of their actions
-pub record HasShortRuns (c : Candidate) (rs : List Run) : Type 0 where
-  pub arguments : (k : ℕ) (t : ThreadPart) → slice_get c.threads k ≡ Some t → t.arg < 2 ^ 32
-  pub lengths : (k : ℕ) (r : Run) → slice_get rs k ≡ Some r → length r.actions ≤ 2 ^ 32
+-- the constants of each accepted text have 32 bits
+abbrev pub AcceptedHasWordConstants : Type 0
+AcceptedHasWordConstants = (bound : ℕ) (full : Bool) (text : List ℕ) (p : Checked) → IsAccepted bound full text p → HasWordConstants p
+
+-- the places of the actions have 32 bits
+abbrev pub HasShortRuns : List Run → Type 0
+HasShortRuns rs = (k : ℕ) (r : Run) → slice_get rs k ≡ Some r → length r.actions ≤ 2 ^ 32
 
 -- some failing execution of the program has a text
 pub record IsSpelledFailure (p : Checked) (m : MemoryModel) : Type 0 where
@@ -22,10 +25,11 @@ pub record IsSpelledFailure (p : Checked) (m : MemoryModel) : Type 0 where
   pub fails : ProgramFails p m candidate
   pub spells : Spells p.functions (cell_names p.cells) candidate text
 
--- where one fails whose numbers have 32 bits, one that has a text fails
+-- where one of an accepted text fails whose runs are so short, one that has a text fails
 abbrev pub FailingIsSpelled : Type 0
 FailingIsSpelled =
-    (p : Checked) (m : MemoryModel) (c : Candidate) → IsChecked p → length p.functions ≤ 2 ^ 32 → (x : ProgramFails p m c) → HasShortRuns c x.allowed.threads → IsSpelledFailure p m
+    (bound : ℕ) (full : Bool) (text : List ℕ) (p : Checked) (m : MemoryModel) (c : Candidate) → IsAccepted bound full text p → (x : ProgramFails p m c) → HasShortRuns x.allowed.threads
+    → IsSpelledFailure p m
 
 -- no execution fails, unless one fails that has a text
 abbrev pub SafeUnlessSpelled : Checked → MemoryModel → Type 0

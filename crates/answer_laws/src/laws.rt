@@ -1,9 +1,10 @@
 //! Laws of answers.
 
 ghost use Rattle.answer_laws.specs.Laws.{SomeAnswerIsAllowed, SomeReplayIsAllowed, SomeVerdictIsAllowed, UnbrokenFails, UnopposedIsConsistent, WitnessesAreSpelledOrRefused};
-ghost use Rattle.answer_laws.specs.Spelled.{FailingIsSpelled};
+ghost use Rattle.answer_laws.specs.Spelled.{AcceptedHasWordConstants, FailingIsSpelled};
 
 use c_program::not_neither;
+use run_laws::candidates_are_of_words;
 
 /// Each text spells a candidate or is refused at a line: a longest run of its whole lines with which some spelling begins is
 /// always there.
@@ -23,10 +24,18 @@ pub fn unbroken_candidates_fail()
     ensures { UnbrokenFails }
 {}
 
-/// Where an execution fails whose threads have words as arguments and runs of at most 2^32 actions, one fails that has a text.
+/// The constants of each accepted text are below 2^32.
+pub fn accepted_texts_have_word_constants()
+    ensures { AcceptedHasWordConstants }
+{}
+
+/// Where an execution of an accepted text fails whose runs have at most 2^32 actions, one fails that has a text.
 pub fn failing_is_spelled()
     ensures { FailingIsSpelled }
-{}
+{
+    candidates_are_of_words();
+    accepted_texts_have_word_constants();
+}
 
 /// Of each text that is given as a witness for a checked program, under each model, something is answered.
 pub fn some_replay_is_allowed()
