@@ -8,10 +8,9 @@ use Rattle.first_form.specs.declared.form.Form.{Form}
 use Rattle.first_form.specs.Whole.{form_of}
 use Rattle.dg_top.specs.Answers.{IsDecided}
 use Rattle.answer_laws.specs.Laws.{SomeVerdictIsAllowed}
-use Rattle.answer_laws.specs.Spelled.{SafeUnlessSpelled}
 use Rattle.answer_laws.proofs.Forms.{form_is_spelled}
 use Rattle.answer_laws.proofs.Functions.{few_functions}
-use Rattle.answer_laws.proofs.Verdicts.{some_verdict}
+use Rattle.answer_laws.proofs.Verdicts.{SafeUnlessSpelled, some_verdict}
 
 module _ (p : Checked) (checked : IsChecked p) (few : length p.functions ≤ 65536) where
   with_form : (o : Option Form) → form_of p.program ≡ o → IsDecided Sc p → SafeUnlessSpelled p Sc

@@ -28,9 +28,10 @@ use Rattle.form_verdict.specs.Verdict.{IsFormFailure}
 use Rattle.form_verdict.proofs.FailsExecution.{few_writes}
 use Rattle.form_verdict.proofs.Searching.{all_assert, first_found}
 use Rattle.form_verdict.proofs.Shown.{safe, shows}
-use Rattle.answer_laws.specs.Spelled.{IsSpelledFailure, SafeUnlessSpelled}
+use Rattle.answer_laws.specs.Spelled.{IsSpelledFailure}
 use Rattle.answer_laws.proofs.Evident.{all_at}
 use Rattle.answer_laws.proofs.Options.{none_else}
+use Rattle.answer_laws.proofs.Verdicts.{SafeUnlessSpelled}
 
 -- ---- numbers of the parts
 

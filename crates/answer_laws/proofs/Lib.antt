@@ -9,7 +9,7 @@ pub mod Constants
 pub mod Sorting
 pub mod Written
 pub mod Settings
-pub mod Forms
 pub mod Verdicts
+pub mod Forms
 pub mod Decided
 pub mod Answered

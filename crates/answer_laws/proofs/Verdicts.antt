@@ -3,9 +3,14 @@ use Rattle.std.proofs.Common.{◌≡◌}
 use Rattle.axiom_model.specs.declared.Candidate.{Candidate}
 use Rattle.axiom_model.specs.declared.MemoryModel.{MemoryModel}
 use Rattle.c_check.specs.declared.checked.Checked.{Checked}
+use Rattle.run_model.specs.Threads.{ProgramFails}
 use Rattle.dg_top.specs.Answers.{Answer, IsDecided, IsVerdict, NotYet, Safe, Unsafe, not_yet, safe, unsafe}
-use Rattle.answer_laws.specs.Spelled.{IsSpelledFailure, SafeUnlessSpelled}
+use Rattle.answer_laws.specs.Spelled.{IsSpelledFailure}
 use Rattle.answer_laws.proofs.Unbroken.{failing_is_told}
+
+-- no execution fails, unless one fails that has a text
+abbrev pub SafeUnlessSpelled : Checked → MemoryModel → Type 0
+SafeUnlessSpelled p m = (IsSpelledFailure p m → ⊥) → (c : Candidate) → ProgramFails p m c → ⊥
 
 module _ (m : MemoryModel) (p : Checked) (none : (a : Answer) → IsVerdict m p a → ⊥) where
   not_spelled : IsDecided m p → IsSpelledFailure p m → ⊥

@@ -30,7 +30,3 @@ abbrev pub FailingIsSpelled : Type 0
 FailingIsSpelled =
     (bound : ℕ) (full : Bool) (text : List ℕ) (p : Checked) (m : MemoryModel) (c : Candidate) → IsAccepted bound full text p → (x : ProgramFails p m c) → HasShortRuns x.allowed.threads
     → IsSpelledFailure p m
-
--- no execution fails, unless one fails that has a text
-abbrev pub SafeUnlessSpelled : Checked → MemoryModel → Type 0
-SafeUnlessSpelled p m = (IsSpelledFailure p m → ⊥) → (c : Candidate) → ProgramFails p m c → ⊥
