@@ -1,5 +1,5 @@
 -- The constants of an accepted text are words.
-use Rattle.std.proofs.Common.{◌≡◌, ℕ, suc, ◌<◌, ◌≤◌, ◌^◌, List, [], ◌∷◌, ◌++◌, map, Bool, true, false, cond, Option, Some, None, length, take, refl, sym, ap, ◌∙◌, subst, ⊎_elim, arith}
+use Rattle.std.proofs.Common.{◌≡◌, ℕ, ◌<◌, ◌^◌, List, [], ◌∷◌, ◌++◌, map, Bool, true, false, cond, Option, Some, None, length, take, refl, sym, ap, ◌∙◌, subst, arith}
 use Rattle.std.specs.Prelude.{All, nat_lt, ◌-◌, ◌==◌, ◌||◌, if◌then◌else◌, unwrap_or}
 use Rattle.std.proofs.lemmas.Bool.{ltb-true}
 use Rattle.std.proofs.lemmas.List.Elements.{All-append, All-cons}
@@ -16,23 +16,19 @@ use Rattle.c_tree.specs.declared.expr.Expr.{Expr, fold-roll-Expr}
 use Rattle.c_tree.specs.declared.expr.Expr.TheVariants as e
 use Rattle.c_tree.specs.declared.expr.Expr.TheOpen.{Expr-F}
 use Rattle.c_tree.specs.declared.stmt.Initialiser.{Initialiser}
-use Rattle.c_tree.specs.declared.stmt.Initialiser.TheVariants as i
 use Rattle.c_tree.specs.declared.stmt.Declarator.{Declarator}
 use Rattle.c_tree.specs.declared.stmt.Decl.{Decl}
 use Rattle.c_tree.specs.declared.stmt.Start.{Start}
-use Rattle.c_tree.specs.declared.stmt.Start.TheVariants as start
 use Rattle.c_tree.specs.declared.stmt.Stmt.{Stmt, fold-roll-Stmt}
 use Rattle.c_tree.specs.declared.stmt.Stmt.TheVariants as s
 use Rattle.c_tree.specs.declared.stmt.Stmt.TheOpen.{Stmt-F}
-use Rattle.c_tree.specs.declared.program.Function.{Function}
 use Rattle.c_tree.specs.declared.program.Item.{Item}
-use Rattle.c_tree.specs.declared.program.Item.TheVariants as item
 use Rattle.c_rules.specs.Names.{Name, functions_of}
 use Rattle.c_expr.specs.Expressions.{Reads, ReadsArgument, ReadsArguments, address, assign, binary, bracket, call, cast, choose, comma, index, more_arguments, name, no_argument, number, one_argument, prefix, step_after, step_before, text, value, value_in}
 use Rattle.c_stmt.specs.Declarations.{ReadsDeclaration, ReadsDeclarator, ReadsDeclarators, ReadsInitialiser, ReadsOption, ReadsValues, absent, braces, declaration, declarator, further, last, last_comma, last_declarator, next_declarator, none, one, some}
 use Rattle.c_stmt.specs.Statements.{ReadsBlock, ReadsStart, ReadsStmt, a_declaration, a_statement, block, break, continue, declare, do_while, empty, expr, expr_start, for, if_else, if_only, label, no_more, nothing, return, while}
 use Rattle.c_stmt.specs.Programs.{ReadsItem, ReadsItems, ReadsPlain, an_item, function, no_item, plain, prototype, shared, static}
-use Rattle.run_laws.specs.Leaves.{Called, Leaf, Value, in_all, in_body, in_declarators, in_else, in_for, in_functions, in_option, in_start, in_stmt, leaves, leaves_step, stmt_leaves}
+use Rattle.run_laws.specs.Leaves.{Called, Leaf, Value, in_all, in_declarators, in_for, in_functions, in_option, in_start, in_stmt, leaves, leaves_step, stmt_leaves}
 use Rattle.run_laws.specs.Words.{IsWord, IsWordIn}
 use Rattle.answer_laws.specs.Spelled.{AcceptedHasWordConstants}
 

@@ -1,5 +1,5 @@
 -- An execution against which there is no evidence is consistent.
-use Rattle.std.proofs.Common.{◌≡◌, ◌≢◌, ℕ, zero, suc, ◌<◌, ◌⊎◌, List, [], ◌∷◌, Some, refl, sym, ap, ◌∙◌, subst, ⊎_elim, inl, inr, arith, length}
+use Rattle.std.proofs.Common.{◌≡◌, ◌≢◌, ℕ, zero, suc, ◌<◌, ◌⊎◌, List, [], ◌∷◌, Some, refl, sym, subst, ⊎_elim, inl, inr, arith}
 use Rattle.std.specs.Prelude.{slice_get, All}
 use Rattle.std.proofs.lemmas.Bool.{cases_order}
 use Rattle.std.proofs.lemmas.List.Elements.{All-get_or}
@@ -13,7 +13,7 @@ use Rattle.axiom_model.specs.declared.Event.{Event}
 use Rattle.axiom_model.specs.declared.Event.TheVariants.{At, Initial}
 use Rattle.axiom_model.specs.declared.RfPair.{RfPair}
 use Rattle.axiom_model.specs.Cycles.{NoCycle}
-use Rattle.axiom_model.specs.Execution.{Co, Execution, Fr, Ordered, Rf, SameBlock, action_at, actions_of}
+use Rattle.axiom_model.specs.Execution.{Co, Execution, Fr, Rf, SameBlock, action_at, actions_of}
 use Rattle.axiom_model.specs.Models.{Consistent, GlobalEdge, GlobalRf, Kept, Leaves, LocalEdge}
 use Rattle.axiom_model.specs.Models as model
 use Rattle.axiom_model.specs.WellMade.{Shape, WellMade}

@@ -1,19 +1,19 @@
 -- A program that is read from a text has no more functions than tokens, and there are at most 65,536 tokens.
-use Rattle.std.proofs.Common.{◌≡◌, ℕ, suc, ◌≤◌, List, [], ◌∷◌, ◌++◌, length, map, Bool, true, false, cond, Option, Some, None, Result, Ok, Err, refl, sym, ap, ◌∙◌, arith, length-append}
+use Rattle.std.proofs.Common.{◌≡◌, ℕ, ◌≤◌, List, [], ◌∷◌, ◌++◌, length, map, Bool, true, false, cond, Option, Some, None, Result, Ok, Err, refl, ap, ◌∙◌, arith, length-append}
 use Rattle.std.specs.Prelude.{codes, nat_lt}
 use Rattle.std.proofs.lemmas.Bool.{ltb-false}
 use Rattle.std.proofs.lemmas.List.{length-map}
 use Rattle.dg_base.specs.declared.Place.{Place}
 use Rattle.dg_base.specs.declared.refusal.LimitKind.TheVariants.{Macro, Text, Tokens as TokenCount}
 use Rattle.dg_base.specs.declared.refusal.Refusal.{Refusal}
-use Rattle.dg_base.specs.declared.refusal.Refusal.TheVariants.{BadByte, Limit, Unsupported}
+use Rattle.dg_base.specs.declared.refusal.Refusal.TheVariants.{BadByte, Limit}
 use Rattle.token_list.specs.declared.Token.{Token}
 use Rattle.token_list.specs.declared.Tokens.{Tokens}
 use Rattle.c_token.specs.Bytes.{capped}
 use Rattle.c_token.specs.Macros.{Reading, bodies_of, nothing_read, read}
 use Rattle.c_token.specs.Dropping.{kept}
 use Rattle.c_token.specs.Pieces.{Segment, all_segments, beginning, behind}
-use Rattle.c_token.specs.Tokens.{answer, first_long, is_unsupported, limited, meant, supported, tokens_of, tokens_read}
+use Rattle.c_token.specs.Tokens.{answer, first_long, limited, meant, supported, tokens_of, tokens_read}
 use Rattle.c_tree.specs.declared.stmt.Decl.{Decl}
 use Rattle.c_tree.specs.declared.program.Function.{Function}
 use Rattle.c_tree.specs.declared.program.Item.{Item}

@@ -1,5 +1,5 @@
 -- A list whose elements each stand before or behind each other one can be put in an order that rises.
-use Rattle.std.proofs.Common.{◌≡◌, ◌≢◌, ℕ, zero, suc, ◌⊎◌, List, [], ◌∷◌, Bool, true, ◌&&◌, Some, refl, sym, ap, ◌∙◌, subst, ⊎_elim, arith}
+use Rattle.std.proofs.Common.{◌≡◌, ◌≢◌, ℕ, suc, ◌⊎◌, List, [], ◌∷◌, Bool, true, ◌&&◌, Some, refl, ⊎_elim, arith}
 use Rattle.std.specs.Prelude.{slice_get, All, IsPermutation}
 use Rattle.std.proofs.lemmas.Bool.{and_from, and_parts}
 use Rattle.std.proofs.lemmas.List.Elements.{All-cons}

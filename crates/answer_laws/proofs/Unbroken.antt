@@ -1,15 +1,13 @@
 -- A candidate that breaks no condition fails.
-use Rattle.std.proofs.Common.{◌≡◌, ◌≢◌, ℕ, List, [], ◌∷◌, map, length, Bool, true, false, cond, Option, Some, None, refl, sym, ap, subst, ⊎_elim, ◌∙◌}
+use Rattle.std.proofs.Common.{◌≡◌, ◌≢◌, List, [], ◌∷◌, map, length, Bool, true, false, cond, Option, Some, None, refl, sym, ap, subst, ⊎_elim, ◌∙◌}
 use Rattle.std.specs.Prelude.{nat_eq}
 use Rattle.std.specs.List.{list_any}
 use Rattle.std.proofs.lemmas.Bool.{cases_Bool}
 use Rattle.std.proofs.lemmas.Bool.Decides.{not_from_Decides}
 use Rattle.std.proofs.lemmas.Option.{none-some}
-use Rattle.axiom_model.specs.declared.Event.{Event}
 use Rattle.axiom_model.specs.declared.MemoryModel.{MemoryModel}
 use Rattle.axiom_model.specs.declared.ThreadPart.{ThreadPart}
 use Rattle.axiom_model.specs.declared.Candidate.{Candidate}
-use Rattle.axiom_model.specs.Execution.{Execution}
 use Rattle.axiom_model.specs.Failing.{FailsFirst, HasWords, Run, SomeFails}
 use Rattle.axiom_model.specs.Models.{Consistent}
 use Rattle.c_check.specs.declared.checked.Checked.{Checked}
@@ -22,13 +20,13 @@ use Rattle.consistency.specs.Seen.{thread_seen}
 use Rattle.run_model.specs.Threads.{ProgramFails}
 use Rattle.exec_check.specs.declared.Failing.{Failing}
 use Rattle.exec_check.specs.declared.Reject.{Reject}
-use Rattle.exec_check.specs.declared.Reject.TheVariants.{MainMissing, ThreadTwice, UnknownThread, ScriptShort, ScriptLong, BadRun, NoCreate, NoThread, BadSource, BadOrder, BadJoin, LocalCycle, GlobalCycle, BlockCycle, NotFailing, OutOfMemory}
+use Rattle.exec_check.specs.declared.Reject.TheVariants.{MainMissing, ThreadTwice, UnknownThread, ScriptLong, BadRun, NoCreate, NoThread, BadSource, BadOrder, BadJoin, LocalCycle, GlobalCycle, BlockCycle, NotFailing, OutOfMemory}
 use Rattle.exec_check.specs.ActionTests.{bad_order_from, child_of, has_child, has_source, is_created, joins_ended, least_unread}
 use Rattle.exec_check.specs.Broken.{IsFirstBroken}
 use Rattle.exec_check.specs.Conditions.{HasChildren, HasCreates, HasMain, HasOrders, HasRuns, HasSources, HasThreads, IsAboveAll, IsExecution, IsKnown, RunsWell}
 use Rattle.exec_check.specs.EventActions.{ListsActions, event_actions, event_of}
 use Rattle.exec_check.specs.First.{EachThread}
-use Rattle.exec_check.specs.Running.{acting, alone, execution_in, run_by, run_told, runs_of, shape}
+use Rattle.exec_check.specs.Running.{acting, execution_in, run_by, run_told, runs_of, shape}
 use Rattle.exec_check.specs.ThreadTests.{first_not, first_wrong, handle_of, is_known, is_main, not_rising, seen_by, told_failing, wrong_run}
 use Rattle.exec_check.proofs.Excluding.{runs_are}
 use Rattle.exec_check.proofs.Listed.{or_else-some}

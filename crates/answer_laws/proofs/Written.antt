@@ -1,5 +1,5 @@
 -- A failing execution whose numbers have 32 bits has a text, with its pairs in the order of their readers.
-use Rattle.std.proofs.Common.{◌≡◌, ◌≢◌, ℕ, zero, suc, ◌<◌, ◌≤◌, ◌^◌, ◌⊎◌, List, [], ◌∷◌, ◌&&◌, Bool, true, length, Some, refl, sym, ap, ◌∙◌, subst, ⊎_elim, inl, inr, arith}
+use Rattle.std.proofs.Common.{◌≡◌, ◌≢◌, ℕ, suc, ◌<◌, ◌≤◌, ◌^◌, ◌⊎◌, List, [], ◌∷◌, Bool, true, length, Some, refl, sym, ap, ◌∙◌, subst, ⊎_elim, inl, inr, arith}
 use Rattle.std.specs.Prelude.{slice_get, get_or, All}
 use Rattle.std.specs.List.{AllByRecursion}
 use Rattle.std.proofs.lemmas.Bool.{and_from, lt-ltb}
@@ -18,7 +18,7 @@ use Rattle.axiom_model.specs.declared.ThreadPart.{ThreadPart}
 use Rattle.axiom_model.specs.declared.Candidate.{Candidate}
 use Rattle.axiom_model.specs.Execution.{Execution, Thread, action_at}
 use Rattle.axiom_model.specs.Failing.{Run, execution_of}
-use Rattle.axiom_model.specs.WellMade.{ReadsOnce, Shape, WellMade, Writes}
+use Rattle.axiom_model.specs.WellMade.{WellMade, Writes}
 use Rattle.axiom_model.proofs.Reordered.{failing-reordered}
 use Rattle.axiom_model.proofs.Threads.{acts_from}
 use Rattle.c_check.specs.declared.checked.CellInfo.{CellInfo}
@@ -40,7 +40,7 @@ use Rattle.witness_text.specs.Witness.{witness_text}
 use Rattle.answer_laws.specs.Spelled.{AcceptedHasWordConstants, FailingIsSpelled, HasShortRuns, IsSpelledFailure}
 use Rattle.answer_laws.proofs.Evident.{all_at}
 use Rattle.answer_laws.proofs.Functions.{few_functions}
-use Rattle.answer_laws.proofs.Sorting.{AllApart, Apart, Sorted, apart_from, sorted}
+use Rattle.answer_laws.proofs.Sorting.{AllApart, Sorted, apart_from, sorted}
 
 -- ---- lists
 
