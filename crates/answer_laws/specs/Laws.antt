@@ -1,5 +1,5 @@
--- That there always is an answer, and what it rests on. Nothing is excluded in the middle: of two cases that cannot both fail
--- it is said that both fail never.
+-- That there always is an answer, and what it rests on. The logic has no excluded middle, so where there are several cases a law
+-- says that it is impossible that each of them is impossible.
 use Rattle.std.specs.Prelude.{◌≢◌, ℕ, Bool, List}
 use Rattle.dg_base.specs.declared.outside.FileEntry.{FileEntry}
 use Rattle.axiom_model.specs.declared.Candidate.{Candidate}
