@@ -1,4 +1,4 @@
--- A failing execution whose numbers have 32 bits has a text, with its pairs in the order of their readers.
+-- An execution whose numbers have 32 bits has a text, with its pairs in the order of their readers.
 use Rattle.std.proofs.Common.{◌≡◌, ◌≢◌, ℕ, suc, ◌<◌, ◌≤◌, ◌^◌, ◌⊎◌, List, [], ◌∷◌, Bool, true, length, Some, refl, sym, ap, ◌∙◌, subst, ⊎_elim, inl, inr, arith}
 use Rattle.std.specs.Prelude.{slice_get, get_or, All}
 use Rattle.std.specs.List.{AllByRecursion}
@@ -27,7 +27,7 @@ use Rattle.c_check.specs.PlainNames.{cell_names}
 use Rattle.c_check.specs.WellFormed.{IsChecked}
 use Rattle.c_check.proofs.PlainNames.{all_map}
 use Rattle.run_model.specs.Programs.{shape_of}
-use Rattle.run_model.specs.Threads.{ProgramFails, thread_run}
+use Rattle.run_model.specs.Threads.{ProgramAllows, thread_run}
 use Rattle.run_laws.specs.Words.{CandidatesAreOfWords, IsCandidateOfWords, IsWord}
 use Rattle.exec_check.specs.Conditions.{HasThreads}
 use Rattle.exec_check.specs.Running.{execution_in, run_by, runs_of, shape}
@@ -37,7 +37,7 @@ use Rattle.exec_check.proofs.Shaped.{cells_shaped, functions_shaped, shape_is}
 use Rattle.exec_check.proofs.Whole.{has_threads, part_at}
 use Rattle.witness_text.specs.Spelling.{HasEventNumbers, HasNumbers, HasPairNumbers, HasThreadNumbers, IsNumber, IsSpellable, event_before, handle_before, is_action, reader_before, rises, rises_from}
 use Rattle.witness_text.specs.Witness.{witness_text}
-use Rattle.answer_laws.specs.Spelled.{AcceptedHasWordConstants, FailingIsSpelled, HasShortRuns, IsSpelledFailure}
+use Rattle.answer_laws.specs.Spelled.{AcceptedHasWordConstants, AllowedIsSpelled, FailingIsSpelled, HasShortRuns, IsSpelled}
 use Rattle.answer_laws.proofs.Evident.{all_at}
 use Rattle.answer_laws.proofs.Functions.{few_functions}
 use Rattle.answer_laws.proofs.Sorting.{AllApart, Sorted, apart_from, sorted}
@@ -74,15 +74,15 @@ acts : (x : Execution) (e : Event) → IsAction x e → is_action e ≡ true
 acts x Initial a = absurd (none-some a.0 a.1)
 acts x (At h i) a = refl
 
-module _ (p : Checked) (m : MemoryModel) (c : Candidate) (checked : IsChecked p) (few : length p.functions ≤ 65536) (x : ProgramFails p m c) (words : IsCandidateOfWords c x.allowed.threads) (few_actions : HasShortRuns x.allowed.threads) where
+module _ (p : Checked) (m : MemoryModel) (c : Candidate) (checked : IsChecked p) (few : length p.functions ≤ 65536) (allows : ProgramAllows p m c) (words : IsCandidateOfWords c allows.threads) (few_actions : HasShortRuns allows.threads) where
   abbrev seen : Execution
   seen = execution_in p c
 
-  same_runs : x.allowed.threads ≡ runs_of p c.threads
-  same_runs = runs_are p c.threads x.allowed.threads x.allowed.whole
+  same_runs : allows.threads ≡ runs_of p c.threads
+  same_runs = runs_are p c.threads allows.threads allows.whole
 
   made : WellMade (shape p) seen
-  made = subst (λ s. WellMade s seen) (sym (shape_is p)) (subst (λ rs. WellMade (shape_of p.program) (execution_of c rs)) same_runs x.allowed.well_made)
+  made = subst (λ s. WellMade s seen) (sym (shape_is p)) (subst (λ rs. WellMade (shape_of p.program) (execution_of c rs)) same_runs allows.well_made)
 
   threads : HasThreads p c.threads
   threads = has_threads p c made
@@ -119,7 +119,7 @@ module _ (p : Checked) (m : MemoryModel) (c : Candidate) (checked : IsChecked p)
         handle = omega (arith, known.1);
         function = omega (arith, known.0, functions, few);
         arg = all_at (λ (u : ThreadPart). IsWord u.arg) c.threads k t words.arguments e;
-        script = recursion_from_All IsNumber t.script (all_at (λ (u : ThreadPart). All (λ v. v < 2 ^ 32) u.script) c.threads k t x.allowed.words e);
+        script = recursion_from_All IsNumber t.script (all_at (λ (u : ThreadPart). All (λ v. v < 2 ^ 32) u.script) c.threads k t allows.words e);
       }
 
   order_numbers : (n : ℕ) (l : List Event) → slice_get c.co n ≡ Some l → AllByRecursion HasEventNumbers l
@@ -183,17 +183,21 @@ module _ (p : Checked) (m : MemoryModel) (c : Candidate) (checked : IsChecked p)
     orders = made.lists ∙ ap (λ (l : List ℕ). length l) (cells_shaped p checked) ∙ length-map p.cells (λ (i : CellInfo). i.initial) ∙ sym (length-map p.cells (λ (i : CellInfo). i.name));
   }
 
-  spelled : IsSpelledFailure p m
+  spelled : IsSpelled p c
   spelled = record {
     candidate = ordered;
     text = witness_text p.functions (cell_names p.cells) ordered;
-    fails = failing-reordered (shape_of p.program) (thread_run p) m c ordered (record { threads = refl; pairs = pairs.moved; orders = refl }) x;
+    reordered = record { threads = refl; pairs = pairs.moved; orders = refl };
     spells = record { numbers = numbers; spellable = spellable; spelled = refl };
   }
 
 module _ (of_words : CandidatesAreOfWords) (constants : AcceptedHasWordConstants) where
-  pub failing_is_spelled : FailingIsSpelled
-  failing_is_spelled bound full text p m c acc x short =
-      let a = x.allowed in
+  pub allowed_is_spelled : AllowedIsSpelled
+  allowed_is_spelled bound full text p m c acc a short =
       let words = of_words p c a.threads acc.checked (constants bound full text p acc) a.words a.whole a.well_made in
-      spelled p m c acc.checked (few_functions bound full text p acc) x words short
+      spelled p m c acc.checked (few_functions bound full text p acc) a words short
+
+pub failing_is_spelled : AllowedIsSpelled → FailingIsSpelled
+failing_is_spelled allowed bound full text p m c acc x short =
+    let s = allowed bound full text p m c acc x.allowed short in
+    record { candidate = s.candidate; text = s.text; fails = failing-reordered (shape_of p.program) (thread_run p) m c s.candidate s.reordered x; spells = s.spells }

@@ -1,11 +1,12 @@
--- Failing executions that have a text.
+-- Executions that have a text.
 use Rattle.std.specs.Prelude.{◌≡◌, ℕ, ◌≤◌, ◌^◌, Bool, List, Some, length, slice_get}
 use Rattle.axiom_model.specs.declared.MemoryModel.{MemoryModel}
 use Rattle.axiom_model.specs.declared.Candidate.{Candidate}
 use Rattle.axiom_model.specs.Failing.{Run}
+use Rattle.axiom_model.specs.Reordered.{ReorderedCandidate}
 use Rattle.c_check.specs.declared.checked.Checked.{Checked}
 use Rattle.c_check.specs.PlainNames.{cell_names}
-use Rattle.run_model.specs.Threads.{ProgramFails}
+use Rattle.run_model.specs.Threads.{ProgramAllows, ProgramFails}
 use Rattle.run_laws.specs.Words.{HasWordConstants}
 use Rattle.witness_text.specs.Spelling.{Spells}
 use Rattle.c_program.specs.Accepting.{IsAccepted}
@@ -18,6 +19,18 @@ AcceptedHasWordConstants = (bound : ℕ) (full : Bool) (text : List ℕ) (p : Ch
 abbrev pub HasShortRuns : List Run → Type 0
 HasShortRuns rs = (k : ℕ) (r : Run) → slice_get rs k ≡ Some r → length r.actions ≤ 2 ^ 32
 
+-- the candidate has a text, with its pairs in another order
+pub record IsSpelled (p : Checked) (c : Candidate) : Type 0 where
+  pub candidate : Candidate
+  pub text : List ℕ
+  pub reordered : ReorderedCandidate c candidate
+  pub spells : Spells p.functions (cell_names p.cells) candidate text
+
+-- so it is with each execution of an accepted text that a model allows, where its runs are short
+abbrev pub AllowedIsSpelled : Type 0
+AllowedIsSpelled =
+    (bound : ℕ) (full : Bool) (text : List ℕ) (p : Checked) (m : MemoryModel) (c : Candidate) → IsAccepted bound full text p → (a : ProgramAllows p m c) → HasShortRuns a.threads → IsSpelled p c
+
 -- some failing execution of the program has a text
 pub record IsSpelledFailure (p : Checked) (m : MemoryModel) : Type 0 where
   pub candidate : Candidate
@@ -25,7 +38,7 @@ pub record IsSpelledFailure (p : Checked) (m : MemoryModel) : Type 0 where
   pub fails : ProgramFails p m candidate
   pub spells : Spells p.functions (cell_names p.cells) candidate text
 
--- where one of an accepted text fails whose runs are so short, one that has a text fails
+-- so it is where one with short runs fails
 abbrev pub FailingIsSpelled : Type 0
 FailingIsSpelled =
     (bound : ℕ) (full : Bool) (text : List ℕ) (p : Checked) (m : MemoryModel) (c : Candidate) → IsAccepted bound full text p → (x : ProgramFails p m c) → HasShortRuns x.allowed.threads

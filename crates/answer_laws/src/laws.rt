@@ -1,7 +1,7 @@
 //! Laws of answers.
 
 ghost use Rattle.answer_laws.specs.Laws.{SomeAnswerIsAllowed, SomeReplayIsAllowed, SomeVerdictIsAllowed, UnbrokenFails, UnopposedIsConsistent, WitnessesAreSpelledOrRefused};
-ghost use Rattle.answer_laws.specs.Spelled.{AcceptedHasWordConstants, FailingIsSpelled};
+ghost use Rattle.answer_laws.specs.Spelled.{AcceptedHasWordConstants, AllowedIsSpelled, FailingIsSpelled};
 
 use c_program::not_neither;
 use run_laws::candidates_are_of_words;
@@ -29,12 +29,20 @@ pub fn accepted_texts_have_word_constants()
     ensures { AcceptedHasWordConstants }
 {}
 
-/// Where an execution of an accepted text fails whose runs have at most 2^32 actions, one fails that has a text.
-pub fn failing_is_spelled()
-    ensures { FailingIsSpelled }
+/// Each execution of an accepted text that a model allows, whose runs have at most 2^32 actions, has a text, with its pairs in
+/// the order of their readers.
+pub fn allowed_is_spelled()
+    ensures { AllowedIsSpelled }
 {
     candidates_are_of_words();
     accepted_texts_have_word_constants();
+}
+
+/// Where such an execution fails, one that has a text fails.
+pub fn failing_is_spelled()
+    ensures { FailingIsSpelled }
+{
+    allowed_is_spelled();
 }
 
 /// Of each text that is given as a witness for a checked program, under each model, something is answered.

@@ -5,15 +5,16 @@
 //! form is this: it is impossible that each case is impossible.
 //!
 //! Of `replay`: each text spells a candidate or is refused at a line, and a candidate of words that breaks no condition first
-//! is a failing execution. Of `verify`: a program that is decided fails only where a failing execution of it has a text. And
-//! for other programs: the numbers of a failing execution of an accepted text have 32 bits but for the places of actions in
-//! runs, and where these have them too it has a text, with its pairs in the order of their readers.
+//! is a failing execution. Of `verify`: a program that is decided fails only where a failing execution of it has a text. And of
+//! every accepted text: an execution that a model allows has a text, with its pairs in the order of their readers, if its runs
+//! have at most 2^32 actions; all its other numbers have 32 bits.
 #![tactic(auto)]
 
 mod laws;
 
 pub use laws::{
-    accepted_texts_have_word_constants, failing_is_spelled, some_answer_is_allowed,
-    some_replay_is_allowed, some_verdict_is_allowed, unbroken_candidates_fail,
-    unopposed_executions_are_consistent, witnesses_are_spelled_or_refused,
+    accepted_texts_have_word_constants, allowed_is_spelled, failing_is_spelled,
+    some_answer_is_allowed, some_replay_is_allowed, some_verdict_is_allowed,
+    unbroken_candidates_fail, unopposed_executions_are_consistent,
+    witnesses_are_spelled_or_refused,
 };
