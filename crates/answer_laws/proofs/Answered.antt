@@ -1,10 +1,10 @@
 -- Some answer is always allowed.
-use Rattle.std.proofs.Common.{◌≡◌, ℕ, List, [], ◌∷◌, Option, Some, None, map, refl, subst}
+use Rattle.std.proofs.Common.{List, [], ◌∷◌, map}
 use Rattle.dg_base.specs.declared.outside.FileEntry.{FileEntry}
 use Rattle.dg_base.specs.Outside.{contents}
 use Rattle.c_program.specs.Accepting.{NotNeither}
 use Rattle.dg_top.specs.declared.settings.Settings.{Settings}
-use Rattle.dg_top.specs.Answers.{Allowed, Answer, BadWords, IsAnswer, IsAnswerOf, LongFile, Refused, answer, bad_words, first_long, job_done, long_file, refused, replayed, verified}
+use Rattle.dg_top.specs.Answers.{Answer, BadWords, IsAnswer, IsAnswerOf, LongFile, Refused, answer, bad_words, first_long, job_done, long_file, refused, replayed, verified}
 use Rattle.dg_top.specs.Settings.{Word, files_of, settings_of}
 use Rattle.c_check.specs.WellFormed.{IsBound}
 use Rattle.answer_laws.specs.Laws.{SomeAnswerIsAllowed, SomeReplayIsAllowed, SomeVerdictIsAllowed}

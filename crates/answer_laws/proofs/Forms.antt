@@ -1,6 +1,6 @@
 -- A failure of a program of the first form has a text.
-use Rattle.std.proofs.Common.{◌≡◌, ℕ, zero, suc, ◌+◌, ◌<◌, ◌≤◌, ◌^◌, List, [], ◌∷◌, ◌++◌, Bool, true, false, Some, None, length, refl, sym, ap, ◌∙◌, ⊎_elim, position, arith, length-append}
-use Rattle.std.specs.Prelude.{slice_get, if◌then◌else◌, All}
+use Rattle.std.proofs.Common.{◌≡◌, ℕ, zero, suc, ◌+◌, ◌<◌, ◌≤◌, ◌^◌, List, [], ◌∷◌, ◌++◌, Bool, true, false, Some, length, refl, sym, ap, ◌∙◌, ⊎_elim, position, arith, length-append}
+use Rattle.std.specs.Prelude.{if◌then◌else◌, All}
 use Rattle.std.specs.List.{AllByRecursion}
 use Rattle.std.proofs.lemmas.Bool.{cases_order}
 use Rattle.std.proofs.lemmas.List.Elements.{recursion_from_All}
@@ -9,7 +9,6 @@ use Rattle.axiom_model.specs.declared.Candidate.{Candidate}
 use Rattle.axiom_model.specs.declared.Event.{Event}
 use Rattle.axiom_model.specs.declared.Event.TheVariants.{At, Initial}
 use Rattle.axiom_model.specs.declared.MemoryModel.TheVariants.{Sc}
-use Rattle.axiom_model.specs.declared.RfPair.{RfPair}
 use Rattle.axiom_model.specs.declared.ThreadPart.{ThreadPart}
 use Rattle.axiom_model.specs.Failing.{HasWords}
 use Rattle.c_check.specs.declared.checked.Checked.{Checked}
@@ -23,7 +22,7 @@ use Rattle.first_form.proofs.Programs.{form_is_program}
 use Rattle.witness_text.specs.Spelling.{HasEventNumbers, HasNumbers, HasPairNumbers, HasThreadNumbers, IsNumber}
 use Rattle.witness_text.specs.Witness.{witness_text}
 use Rattle.form_verdict.specs.Final.{Final, created_writes, events_from, execution_with, initial, is_by, main_part, other_writes, own_writes, parts_from, reads_from, write_events, write_order, writes_of, written}
-use Rattle.form_verdict.specs.Search.{AllAgree, IsFailure, disagrees}
+use Rattle.form_verdict.specs.Search.{IsFailure, disagrees}
 use Rattle.form_verdict.specs.Verdict.{IsFormFailure}
 use Rattle.form_verdict.proofs.FailsExecution.{few_writes}
 use Rattle.form_verdict.proofs.Searching.{all_assert, first_found}

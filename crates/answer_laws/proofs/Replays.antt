@@ -1,5 +1,5 @@
 -- Some answer to a witness's text is allowed.
-use Rattle.std.proofs.Common.{◌≡◌, ◌≢◌, ℕ, List, ◌^◌, ◌<◌}
+use Rattle.std.proofs.Common.{ℕ, List, ◌^◌, ◌<◌}
 use Rattle.std.specs.Prelude.{All}
 use Rattle.std.specs.List.{AllByRecursion}
 use Rattle.std.proofs.lemmas.List.Elements.{All-from_recursion}

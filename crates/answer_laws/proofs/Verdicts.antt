@@ -1,5 +1,4 @@
 -- Some verdict on a program is allowed, if it fails only where a failing execution has a text.
-use Rattle.std.proofs.Common.{◌≡◌}
 use Rattle.axiom_model.specs.declared.Candidate.{Candidate}
 use Rattle.axiom_model.specs.declared.MemoryModel.{MemoryModel}
 use Rattle.c_check.specs.declared.checked.Checked.{Checked}
