@@ -46,7 +46,8 @@ most_trans (At h i) (At k j) (At l m) p q =
 pub all_at : {A : Type 0} (P : A → Type 0) (xs : List A) (k : ℕ) (x : A) → All P xs → slice_get xs k ≡ Some x → P x
 all_at P xs k x h e = subst P (get_or_from_slice_get xs k x x e) (All-get_or P xs k x (slice_get_within xs k x e) h)
 
-abbrev IsAction : Execution → Event → Type 0
+-- the event is an action of the execution
+abbrev pub IsAction : Execution → Event → Type 0
 IsAction x e = (a : Action) × (action_at x e ≡ Some a)
 
 module _ (s : Shape) (x : Execution) (made : WellMade s x) where

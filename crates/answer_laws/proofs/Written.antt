@@ -38,7 +38,7 @@ use Rattle.exec_check.proofs.Whole.{has_threads, part_at}
 use Rattle.witness_text.specs.Spelling.{HasEventNumbers, HasNumbers, HasPairNumbers, HasThreadNumbers, IsNumber, IsSpellable, event_before, handle_before, is_action, reader_before, rises, rises_from}
 use Rattle.witness_text.specs.Witness.{witness_text}
 use Rattle.answer_laws.specs.Spelled.{AcceptedHasWordConstants, AllowedIsSpelled, FailingIsSpelled, HasShortRuns, IsSpelled}
-use Rattle.answer_laws.proofs.Evident.{all_at}
+use Rattle.answer_laws.proofs.Evident.{IsAction, all_at}
 use Rattle.answer_laws.proofs.Functions.{few_functions}
 use Rattle.answer_laws.proofs.Sorting.{AllApart, Sorted, apart_from, sorted}
 
@@ -59,9 +59,6 @@ rises_where before [] h = refl
 rises_where before (x ∷ xs) h = rises_behind before x xs h
 
 -- ---- events
-
-abbrev IsAction : Execution → Event → Type 0
-IsAction x e = (a : Action) × (action_at x e ≡ Some a)
 
 -- of two actions one stands before the other
 events_apart : (x : Execution) (a b : Event) → IsAction x a → IsAction x b → a ≢ b → (event_before a b ≡ true) ⊎ (event_before b a ≡ true)
