@@ -1,9 +1,11 @@
+pub mod Naming
 pub mod Growing
 pub mod Routines
 pub mod Meanings
 pub mod Expressions
 pub mod Loops
 pub mod Bodies
+pub mod Shares
 pub mod FunctionCounts
 pub mod Threads
 pub mod Steady

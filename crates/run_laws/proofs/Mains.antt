@@ -1,4 +1,4 @@
--- The main function of a checked program creates at most 63 threads, and so does each thread below it.
+-- The main function of a checked program keeps the limits, and so does each thread below it.
 use Rattle.std.proofs.Common.{◌≡◌, ℕ, ◌+◌, ◌≤◌, max, List, [], ◌∷◌, Option, Some, None, Bool, true, false, length, refl, sym, ap, subst, arith}
 use Rattle.std.specs.Prelude.{IsTrue, cond, codes, nat_lt, unwrap_or}
 use Rattle.std.specs.List.{AllByRecursion}
@@ -32,10 +32,14 @@ pub all_kept : (ls : List Limited) → first_exceeded ls ≡ None → AllByRecur
 all_kept [] e = tt
 all_kept (l ∷ ls) e = let parts = kept_at (nat_lt l.limit l.count) l ls e in (ltb-false l.limit l.count parts.0, all_kept ls parts.1)
 
--- main and the threads below it create few, and few creations lie one below the other
+-- the limits on counts
+abbrev Few : Counts → Type 0
+Few c = (max c.creates c.most ≤ 63) × (c.depth ≤ 4) × (c.accesses ≤ 1024) × (c.weight ≤ 32768)
+
+-- main and the threads below it keep them
 few_counted : (p : Checked) → KeepsLimits p.k p.program
-    → (max (counts_of p.k p.program).creates (counts_of p.k p.program).most ≤ 63) × ((counts_of p.k p.program).depth ≤ 4)
-few_counted p h = let kept = (all_kept (limits_of p.k p.program) h).1.1 in (kept.0, kept.1.1.0)
+    → Few (counts_of p.k p.program)
+few_counted p h = let kept = (all_kept (limits_of p.k p.program) h).1.1 in (kept.0, kept.1.1.0, kept.1.1.1.0, kept.1.1.1.1.0)
 
 -- ---- main
 
@@ -49,12 +53,8 @@ functions_fewer (item.Function f ∷ xs) = omega (arith, functions_fewer xs)
 functions_fewer (item.Prototype p w n ∷ xs) = omega (arith, functions_fewer xs)
 functions_fewer (item.Shared d ∷ xs) = omega (arith, functions_fewer xs)
 
-still_few : (a b t : ℕ) → capped a ≡ capped b → a ≤ t → t ≤ 63 → b ≤ t
+still_few : (a b t : ℕ) → capped a ≡ capped b → a ≤ t → t ≤ 32768 → b ≤ t
 still_few a b t e h low = omega (arith, e, h, low)
-
--- the bounds of main's counts
-abbrev Few : Counts → Type 0
-Few c = (max c.creates c.most ≤ 63) × (c.depth ≤ 4)
 
 module _ (p : Checked) (checked : IsChecked p) where
   abbrev items : List Item
@@ -82,7 +82,12 @@ module _ (p : Checked) (checked : IsChecked p) where
         enough = omega arith;
         level = omega arith;
         few = still_few _ _ 63 (ap (λ (c : Counts). c.creates) same) (omega (arith, few.0)) (omega arith);
-        low = (still_few _ _ 63 (ap (λ (c : Counts). c.most) same) (omega (arith, few.0)) (omega arith), still_few _ _ 4 (ap (λ (c : Counts). c.depth) same) few.1 (omega arith));
+        low = (
+          still_few _ _ 63 (ap (λ (c : Counts). c.most) same) (omega (arith, few.0)) (omega arith),
+          still_few _ _ 4 (ap (λ (c : Counts). c.depth) same) few.1 (omega arith),
+          still_few _ _ 1024 (ap (λ (c : Counts). c.accesses) same) few.2 (omega arith),
+          still_few _ _ 32768 (ap (λ (c : Counts). c.weight) same) few.3 (omega arith),
+        );
       } in
       let main_is : (shape_of p.program).main ≡ main = ap (λ (o : Option ℕ). unwrap_or o 0) number.1 in
       subst (Fine p least 0) (sym main_is) it

@@ -21,7 +21,8 @@ use Rattle.run_model.specs.Laws.{IsNumbered, creates_in, CreatesFew}
 use Rattle.run_model.proofs.Handles.{run_is_numbered}
 use Rattle.run_model.proofs.Creates.{numbered_at}
 use Rattle.run_laws.specs.Started.{IsStarted, main, created}
-use Rattle.run_laws.proofs.Started.{started_create_few}
+use Rattle.run_laws.specs.Lengths.{IsShort}
+use Rattle.run_laws.proofs.Started.{started_run_small}
 
 -- ---- all threads
 
@@ -69,11 +70,14 @@ module _ (p : Checked) (c : Candidate) (rs : List Run) (checked : IsChecked p) (
       from_event t event.0 event.1 (λ j u there less. leads_at b j u there (omega (arith, less, low))))
       (cases_eq t.handle 0)
 
-  run_few_of : (k : ℕ) (r : Run) → slice_get rs k ≡ Some r → creates_in r.actions ≤ 63
-  run_few_of k r e =
+  run_small : (k : ℕ) (r : Run) → slice_get rs k ≡ Some r → (creates_in r.actions ≤ 63) × IsShort r.actions
+  run_small k r e =
       let part = part_of_run (thread_run p) c.threads rs runs k r e in
       let leads : Leads (thread_of part.0 r) = leads_at (suc part.0.handle) k (thread_of part.0 r) part.2 (omega arith) in
-      started_create_few p checked leads.0 part.0.function part.0.handle part.0.arg part.0.script r leads.1 part.1.0
+      started_run_small p checked leads.0 part.0.function part.0.handle part.0.arg part.0.script r leads.1 part.1.0
+
+  pub run_short : (k : ℕ) (r : Run) → slice_get rs k ≡ Some r → IsShort r.actions
+  run_short k r e = (run_small k r e).1
 
 pub all_few : (p : Checked) (c : Candidate) (rs : List Run) → IsChecked p → AllZip (RunsTo (thread_run p)) c.threads rs → WellMade (shape_of p.program) (execution_of c rs) → CreatesFew rs
-all_few = run_few_of
+all_few p c rs checked runs made = λ k r e. (run_small p c rs checked runs made k r e).0

@@ -14,6 +14,7 @@ use Rattle.run_model.specs.Laws.{creates_in}
 use Rattle.run_model.proofs.Handles.{run_is_numbered}
 use Rattle.run_model.proofs.Creates.{first_is, numbered_at, before, few_before}
 use Rattle.run_laws.specs.Started.{IsStarted, main, created}
+use Rattle.run_laws.specs.Lengths.{IsShort}
 use Rattle.run_laws.proofs.Growing.{CreatesOf}
 use Rattle.run_laws.proofs.Differing.{apart, differ}
 use Rattle.run_laws.proofs.FunctionCounts.{counts_for}
@@ -44,18 +45,27 @@ module _ (p : Checked) (checked : IsChecked p) where
   abbrev deep : ℕ → ℕ
   deep least = suc (least + length (functions_of p.program.items))
 
+  -- few actions, of which few create threads
+  abbrev Small : List Action → Type 0
+  Small acts = (creates_in acts ≤ 63) × IsShort acts
+
+  -- what a run makes with this fuel is small
+  small : (fuel d f : ℕ) (acts : List Action) → (counts_for p fuel f).creates ≤ 63 → Low (at_level d) (counts_for p fuel f)
+      → creates_in acts ≤ (counts_for p fuel f).creates + 0 → length acts ≤ 4 * ((counts_for p fuel f).accesses + (counts_for p fuel f).weight) + 2 → Small acts
+  small fuel d f acts few low creates long = (omega (arith, few, creates), omega (arith, low.2, low.3, long))
+
   run_few_at : (least d f handle arg n : ℕ) (script : List ℕ) (r : Run) (fine : Fine p (deep least) d f) → fine.fuel ≡ n → thread_run p f handle arg script ≡ Some r
-      → (creates_in r.actions ≤ 63) × CreatesOf (Fine p least (suc d)) r.actions
+      → Small r.actions × CreatesOf (Fine p least (suc d)) r.actions
   run_few_at least d f handle arg zero script r fine is e = absurd (omega (arith, is, fine.enough))
   run_few_at least d f handle arg (suc m) script r fine is e =
       let low = subst (λ (n : ℕ). Low (at_level d) (counts_for p n f)) is fine.low in
       let few : (counts_for p (suc m) f).creates ≤ 63 = subst (λ (n : ℕ). (counts_for p n f).creates ≤ 63) is fine.few in
-      let it = run_few p handle least d checked.well_formed.typed m f arg script r (omega (arith, is, fine.enough)) low e in
-      (omega (arith, it.0, few), it.1)
+      let it = run_few p handle least d checked.well_formed.typed checked.bound.0 m f arg script r (omega (arith, is, fine.enough)) low e in
+      (small (suc m) d f r.actions few low it.0 it.1, it.2)
 
-  -- what a run of a fine function creates is few and fine
+  -- what a run of a fine function makes is small, and what it creates is fine
   run_fine : (least d f handle arg : ℕ) (script : List ℕ) (r : Run) → Fine p (deep least) d f → thread_run p f handle arg script ≡ Some r
-      → (creates_in r.actions ≤ 63) × CreatesOf (Fine p least (suc d)) r.actions
+      → Small r.actions × CreatesOf (Fine p least (suc d)) r.actions
   run_fine least d f handle arg script r fine e = run_few_at least d f handle arg fine.fuel script r fine refl e
 
   -- a started function is fine, with as much fuel as one wants
@@ -65,18 +75,22 @@ module _ (p : Checked) (checked : IsChecked p) where
       let at = create_at h f v r.actions made in
       of_at h f v (Fine p least (suc e)) r.actions at.0 (run_fine least e g handle arg script r (started_fine e g s (deep least)) is).1 at.1
 
-  pub started_create_few : (d f handle arg : ℕ) (script : List ℕ) (r : Run) → IsStarted p d f → thread_run p f handle arg script ≡ Some r → creates_in r.actions ≤ 63
-  started_create_few d f handle arg script r s e = (run_fine 0 d f handle arg script r (started_fine d f s (deep 0)) e).0
+  pub started_run_small : (d f handle arg : ℕ) (script : List ℕ) (r : Run) → IsStarted p d f → thread_run p f handle arg script ≡ Some r → Small r.actions
+  started_run_small d f handle arg script r s e = (run_fine 0 d f handle arg script r (started_fine d f s (deep 0)) e).0
 
-  short_few_at : (d f handle arg n : ℕ) (script : List ℕ) (s : ShortRun) (fine : Fine p (deep 0) d f) → fine.fuel ≡ n → short_run p f handle arg script ≡ Some s → creates_in s.actions ≤ 63
-  short_few_at d f handle arg zero script s fine is e = absurd (omega (arith, is, fine.enough))
-  short_few_at d f handle arg (suc m) script s fine is e =
+  pub started_create_few : (d f handle arg : ℕ) (script : List ℕ) (r : Run) → IsStarted p d f → thread_run p f handle arg script ≡ Some r → creates_in r.actions ≤ 63
+  started_create_few d f handle arg script r s e = (started_run_small d f handle arg script r s e).0
+
+  short_small_at : (d f handle arg n : ℕ) (script : List ℕ) (s : ShortRun) (fine : Fine p (deep 0) d f) → fine.fuel ≡ n → short_run p f handle arg script ≡ Some s → Small s.actions
+  short_small_at d f handle arg zero script s fine is e = absurd (omega (arith, is, fine.enough))
+  short_small_at d f handle arg (suc m) script s fine is e =
       let low = subst (λ (n : ℕ). Low (at_level d) (counts_for p n f)) is fine.low in
       let few : (counts_for p (suc m) f).creates ≤ 63 = subst (λ (n : ℕ). (counts_for p n f).creates ≤ 63) is fine.few in
-      omega (arith, short_few p handle 0 d checked.well_formed.typed m f arg script s (omega (arith, is, fine.enough)) low e, few)
+      let it = short_few p handle 0 d checked.well_formed.typed checked.bound.0 m f arg script s (omega (arith, is, fine.enough)) low e in
+      small (suc m) d f s.actions few low it.0 it.1
 
-  pub started_short_few : (d f handle arg : ℕ) (script : List ℕ) (s : ShortRun) → IsStarted p d f → short_run p f handle arg script ≡ Some s → creates_in s.actions ≤ 63
-  started_short_few d f handle arg script s started e = let fine = started_fine d f started (deep 0) in short_few_at d f handle arg fine.fuel script s fine refl e
+  pub started_short_small : (d f handle arg : ℕ) (script : List ℕ) (s : ShortRun) → IsStarted p d f → short_run p f handle arg script ≡ Some s → Small s.actions
+  started_short_small d f handle arg script s started e = let fine = started_fine d f started (deep 0) in short_small_at d f handle arg fine.fuel script s fine refl e
 
   pub started_shallow : (d f : ℕ) → IsStarted p d f → d ≤ 4
   started_shallow d f s = (started_fine d f s 0).level

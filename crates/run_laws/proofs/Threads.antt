@@ -1,13 +1,15 @@
--- The run of a thread creates at most as many threads as its function counts.
-use Rattle.std.proofs.Common.{◌≡◌, ℕ, zero, suc, ◌+◌, ◌-◌, ◌≤◌, List, [], ◌∷◌, Option, Some, None, length, take, refl, sym, ap, ◌∙◌, subst, arith}
+-- The run of a thread makes at most what its function counts, and its first and last action.
+use Rattle.std.proofs.Common.{◌≡◌, ℕ, zero, suc, ◌+◌, ◌-◌, ◌≤◌, List, [], ◌∷◌, Option, Some, None, length, take, refl, sym, subst, arith}
 use Rattle.std.specs.Prelude.{slice_get}
 use Rattle.std.proofs.lemmas.Option.{same_Some}
+use Rattle.axiom_model.specs.declared.Action.{Action}
 use Rattle.axiom_model.specs.declared.Action.TheVariants.{Start}
 use Rattle.axiom_model.specs.Failing.{Run}
 use Rattle.c_tree.specs.declared.program.Function.{Function}
 use Rattle.c_tree.specs.declared.program.Item.{Item}
 use Rattle.c_tree.specs.declared.program.Item.TheVariants as item
-use Rattle.c_rules.specs.Names.{Scope}
+use Rattle.c_rules.specs.declared.names.Entry.{Entry}
+use Rattle.c_rules.specs.Names.{Name, Scope}
 use Rattle.c_rules.specs.Walk.{walk_body, walk_item, walk_items, behind_item, top_scope}
 use Rattle.c_rules.specs.Scopes.{Rules, rule_walk}
 use Rattle.c_rules.specs.Types.{typed_rules}
@@ -15,21 +17,21 @@ use Rattle.c_rules.specs.Typing.{IsTyped}
 use Rattle.c_check.specs.declared.checked.Checked.{Checked}
 use Rattle.c_check.specs.declared.counts.Counts.{Counts}
 use Rattle.c_check.specs.Counts.{exact, behind_items, top_before}
-use Rattle.run_model.specs.declared.state.Halt.TheVariants.{Over, Short}
-use Rattle.run_model.specs.Steps.{State, Outcome, Goes, Halts, make}
+use Rattle.run_model.specs.Steps.{State, Outcome, make}
 use Rattle.run_model.specs.Calls.{Setting, finish}
 use Rattle.run_model.specs.Programs.{setting_of}
-use Rattle.run_model.specs.Threads.{ShortRun, call_within, call_body, run_body, with_function, context_within, thread_steps, thread_run, short_run, outcome_of, run_in, run_with, begins}
+use Rattle.run_model.specs.Threads.{ShortRun, call_within, call_body, run_body, with_function, context_within, thread_steps, thread_run, short_run, begins}
 use Rattle.run_model.specs.Laws.{creates_in}
-use Rattle.run_model.proofs.Kept.{kept_finish}
-use Rattle.run_model.proofs.Handles.{Numbers, numbers_keeps, state_in}
+use Rattle.run_model.proofs.Handles.{state_in}
 use Rattle.run_model.proofs.Fuel.{number_in, stands_at}
-use Rattle.run_laws.proofs.Growing.{CreatesOf, Grows, Within, within_none, within_stop}
-use Rattle.run_laws.proofs.Meanings.{behind, before}
+use Rattle.run_laws.proofs.Naming.{AllCounted}
+use Rattle.run_laws.proofs.Growing.{Size, size_of, actions, plus, anything, CreatesOf, Grows, Within, calm_then, calm_make, within_stop, within_finish}
+use Rattle.run_laws.proofs.Meanings.{still, Makes}
 use Rattle.run_laws.proofs.Expressions.{both_none, Bound, Low, Bounds}
 use Rattle.run_laws.proofs.FunctionCounts.{counts_for, bodies, body_counts, named_counts, counts_are}
 use Rattle.run_laws.proofs.Bodies.{run_body_within, call_body_within}
-use Rattle.run_laws.proofs.Told.{RanShort, ran_short}
+use Rattle.run_laws.proofs.Shares.{top_counts}
+use Rattle.run_laws.proofs.Told.{Ran, ran, RanShort, ran_short}
 
 -- ---- a program that fits its types
 
@@ -65,10 +67,10 @@ one_below p least m d f low h = record {
   enough = low;
   level = omega (arith, h.1);
   few = omega (arith, h.0);
-  low = (omega (arith, h.0), omega (arith, h.1));
+  low = (omega (arith, h.0), omega (arith, h.1), omega (arith, h.2), omega (arith, h.3));
 }
 
-module _ (p : Checked) (handle least d : ℕ) (typed : IsTyped p.program) where
+module _ (p : Checked) (handle least d : ℕ) (typed : IsTyped p.program) (turns : 1 ≤ p.k) where
   abbrev items : List Item
   items = p.program.items
 
@@ -81,84 +83,89 @@ module _ (p : Checked) (handle least d : ℕ) (typed : IsTyped p.program) where
   abbrev Made : ℕ → Type 0
   Made f = Fine p least (suc d) f
 
-  body_typed : (f : ℕ) (h : Function) → slice_get g.functions f ≡ Some h → walk_body (rule_walk (typed_rules g.functions)) (top_before items (number_in items f)) h ≡ None
+  abbrev before_it : ℕ → List Entry
+  before_it f = top_before items (number_in items f)
+
+  body_typed : (f : ℕ) (h : Function) → slice_get g.functions f ≡ Some h → walk_body (rule_walk (typed_rules g.functions)) (before_it f) h ≡ None
   body_typed f h e = body_unbroken (typed_rules g.functions) items top_scope (number_in items f) h typed (stands_at items f h e)
 
-  -- a call creates at most as many threads as it counts with this fuel
+  top_counted : (f : ℕ) → AllCounted (before_it f)
+  top_counted f = top_counts g.functions items (number_in items f) typed
+
+  -- a call, beside what its function counts with this fuel
+  abbrev call_size : Counts → Size
+  call_size c = size_of (exact.together (exact.weight 1) c)
+
+  -- a call makes at most so much
   abbrev Counted : ℕ → ℕ → Type 0
-  Counted n m = (f : ℕ) (args : List ℕ) → Kept (counts_for p m f) → Within Made (counts_for p m f).creates ℕ (call_within n g f args)
+  Counted n m = (f : ℕ) (ns : List Name) (args : List ℕ) → Kept (counts_for p m f) → Makes Made ns (call_size (counts_for p m f)) ℕ (call_within n g f args)
 
   bounds : (n m : ℕ) → least ≤ m → Counted n m → Bounds Made (at_level d) (context_within n g) (bodies p m)
   bounds n m low rest = record {
-    calls = λ a f named kept args.
+    calls = λ a f named kept ns args.
         let same : bodies p m a ≡ counts_for p m f = named_counts p a m f named in
-        subst (λ (c : Counts). Within Made c.creates ℕ (call_within n g f args)) (sym same) (rest f args (subst Kept same kept));
+        subst (λ (c : Counts). Makes Made ns (call_size c) ℕ (call_within n g f args)) (sym same) (rest f ns args (subst Kept same kept));
     creates = λ a f named kept.
         let same : bodies p m a ≡ counts_for p m f = named_counts p a m f named in
         one_below p least m d f low (subst (λ (c : Counts). Kept (exact.new_thread c)) same kept);
     only = refl;
+    turns = turns;
   }
 
-  called_at : (n m f : ℕ) (args : List ℕ) (o : Option Function) → slice_get g.functions f ≡ o → least ≤ m → Counted n m → Kept (counts_for p (suc m) f)
-      → Within Made (counts_for p (suc m) f).creates ℕ (with_function o (λ h. call_body (context_within n g) h args))
-  called_at n m f args None e low rest kept = within_stop Made (counts_for p (suc m) f).creates ℕ
-  called_at n m f args (Some h) e low rest kept =
+  called_at : (n m f : ℕ) (ns : List Name) (args : List ℕ) (o : Option Function) → slice_get g.functions f ≡ o → least ≤ m → Counted n m → Kept (counts_for p (suc m) f)
+      → Makes Made ns (call_size (counts_for p (suc m) f)) ℕ (with_function o (λ h. call_body (context_within n g) h args))
+  called_at n m f ns args None e low rest kept = within_stop Made (call_size (counts_for p (suc m) f)) ns ℕ (still Made ns)
+  called_at n m f ns args (Some h) e low rest kept =
       let same : counts_for p (suc m) f ≡ body_counts p m f h = counts_are p m f h e in
-      subst (λ (c : Counts). Within Made c.creates ℕ (call_body (context_within n g) h args)) (sym same)
-      (call_body_within Made (at_level d) (context_within n g) (bodies p m) (bounds n m low rest) (top_before items (number_in items f)) h (body_typed f h e) (subst Kept same kept) args)
+      subst (λ (c : Counts). Makes Made ns (call_size c) ℕ (call_body (context_within n g) h args)) (sym same)
+      (call_body_within Made (at_level d) (context_within n g) (bodies p m) (bounds n m low rest) (before_it f) (top_counted f) h (body_typed f h e) (subst Kept same kept) ns args)
 
   counted : (n m : ℕ) → least + n ≤ m → Counted n m
-  counted zero m low f args kept = within_stop Made (counts_for p m f).creates ℕ
-  counted (suc n) zero low f args kept = absurd (omega (arith, low))
-  counted (suc n) (suc m) low f args kept = called_at n m f args (slice_get g.functions f) refl (omega (arith, low)) (counted n m (omega (arith, low))) kept
+  counted zero m low f ns args kept = within_stop Made (call_size (counts_for p m f)) ns ℕ (still Made ns)
+  counted (suc n) zero low f ns args kept = absurd (omega (arith, low))
+  counted (suc n) (suc m) low f ns args kept = called_at n m f ns args (slice_get g.functions f) refl (omega (arith, low)) (counted n m (omega (arith, low))) kept
 
-  -- a thread creates at most as many threads as its function counts
+  -- a thread, beside what its function counts
+  abbrev thread_size : Counts → Size
+  thread_size c = plus (size_of c) (actions 2)
+
+  -- a thread makes at most so much
   thread_limited : (m f : ℕ) (h : Function) (arg : ℕ) → least + length g.functions ≤ m → slice_get g.functions f ≡ Some h → Kept (counts_for p (suc m) f)
-      → Within Made (counts_for p (suc m) f).creates ⊥ (thread_steps g h arg)
+      → Within Made (thread_size (counts_for p (suc m) f)) [] ⊥ (still Made []) (thread_steps g h arg)
   thread_limited m f h arg low e kept =
       let same : counts_for p (suc m) f ≡ body_counts p m f h = counts_are p m f h e in
       let n : ℕ = length g.functions in
-      let sum : ℕ = (body_counts p m f h).creates in
-      let runs : Within Made sum ℕ (run_body (context_within n g) h (arg ∷ [])) =
-      run_body_within Made (at_level d) (context_within n g) (bodies p m) (bounds n m (omega (arith, low)) (counted n m low)) (top_before items (number_in items f)) h (body_typed f h e)
-      (subst Kept same kept) (arg ∷ [])
+      let sum : Size = size_of (body_counts p m f h) in
+      let runs : Makes Made [] sum ℕ (run_body (context_within n g) h (arg ∷ [])) =
+      run_body_within Made (at_level d) (context_within n g) (bodies p m) (bounds n m (omega (arith, low)) (counted n m low)) (before_it f) (top_counted f) h (body_typed f h e) (subst Kept same kept) [] (arg ∷ [])
       in
-      subst (λ (c : Counts). Within Made c.creates ⊥ (thread_steps g h arg)) (sym same)
-      (before Made sum (Unit {0}) ⊥ (make Start) _ (within_none Made 0 (Unit {0}) (make Start) (λ own. (numbers_keeps own).of_action Start tt)) (λ _.
-      behind Made sum ℕ ⊥ (run_body (context_within n g) h (arg ∷ [])) (λ _. finish) runs (λ _. within_none Made 0 ⊥ finish (λ own. kept_finish own (Numbers own) (numbers_keeps own) ⊥))))
+      subst (λ (c : Counts). Within Made (thread_size c) [] ⊥ (still Made []) (thread_steps g h arg)) (sym same)
+      (calm_then Made (actions 1) (plus sum (actions 1)) (plus sum (actions 2)) [] (Unit {0}) ⊥ anything (still Made []) (make Start) _ (omega arith, omega arith) (calm_make Made (actions 1) [] Start tt (omega arith)) (λ _ _.
+      calm_then Made sum (actions 1) (plus sum (actions 1)) [] ℕ ⊥ anything (still Made []) (run_body (context_within n g) h (arg ∷ [])) (λ _. finish) (omega arith, omega arith) runs (λ _ _. within_finish Made [] ⊥ (still Made []))))
 
   -- ---- runs
 
-  -- the actions create at most so many threads, of functions that are fine
-  abbrev Few : ℕ → Run → Type 0
-  Few n r = (creates_in r.actions ≤ n) × CreatesOf Made r.actions
+  -- the actions are at most so many, and create at most so many threads, of functions that are fine
+  abbrev Few : Size → List Action → Type 0
+  Few n acts = (creates_in acts ≤ n.creates) × (length acts ≤ n.actions) × CreatesOf Made acts
 
-  few_in : (n : ℕ) (script : List ℕ) (t : State) (r : Run) → Grows Made n (begins script) t → t.actions ≡ r.actions → Few n r
-  few_in n script t r grows e =
-      let same : grows.made ≡ r.actions = sym grows.actions ∙ e in
-      (subst (λ acts. creates_in acts ≤ n) same grows.few, subst (CreatesOf Made) same grows.fine)
+  few_in : (n : Size) (script : List ℕ) (t : State) → Grows Made n (begins script) t → Few n t.actions
+  few_in n script t grows = subst (Few n) (sym grows.actions) (grows.few, grows.short, grows.fine)
 
-  outcome_few : (n : ℕ) (script : List ℕ) (o : Outcome ⊥) (r : Run) → Grows Made n (begins script) (state_in o) → run_in (Some o) ≡ Some r → Few n r
-  outcome_few n script (Goes v t) r grows e = absurd v
-  outcome_few n script (Halts (Over end) t) r grows e = few_in n script t r grows (ap (λ (x : Run). x.actions) (same_Some (run_with t.actions end t.used) r e))
-  outcome_few n script (Halts (Short need) t) r grows e = absurd (let no : ◌≡◌ {A = Option Run} None (Some r) = e in cc)
+  outcome_few : (m f arg : ℕ) (h : Function) (script : List ℕ) (o : Outcome ⊥) → least + length g.functions ≤ m → Kept (counts_for p (suc m) f) → slice_get g.functions f ≡ Some h → thread_steps g h arg (begins script) ≡ o
+      → Few (thread_size (counts_for p (suc m) f)) (state_in o).actions
+  outcome_few m f arg h script o low kept is goes =
+      few_in (thread_size (counts_for p (suc m) f)) script (state_in o)
+      (subst (λ (o : Outcome ⊥). Grows Made (thread_size (counts_for p (suc m) f)) (begins script) (state_in o)) goes ((thread_limited m f h arg low is kept).adds (begins script) refl))
 
-  run_few_at : (m f arg : ℕ) (script : List ℕ) (r : Run) (o : Option Function) → slice_get g.functions f ≡ o → least + length g.functions ≤ m → Kept (counts_for p (suc m) f)
-      → run_in (outcome_of g o arg script) ≡ Some r → Few (counts_for p (suc m) f).creates r
-  run_few_at m f arg script r None found low kept e = absurd (let no : ◌≡◌ {A = Option Run} None (Some r) = e in cc)
-  run_few_at m f arg script r (Some h) found low kept e =
-      outcome_few (counts_for p (suc m) f).creates script (thread_steps g h arg (begins script)) r ((thread_limited m f h arg low found kept).adds (begins script)) e
+  -- its run
+  pub run_few : (m f arg : ℕ) (script : List ℕ) (r : Run) → least + length g.functions ≤ m → Kept (counts_for p (suc m) f) → thread_run p f handle arg script ≡ Some r → Few (thread_size (counts_for p (suc m) f)) r.actions
+  run_few m f arg script r low kept e =
+      let it : Ran p f handle arg script r = ran p f handle arg script r e in
+      subst (λ (r : Run). Few (thread_size (counts_for p (suc m) f)) r.actions) it.run (outcome_few m f arg it.function script _ low kept it.is it.goes)
 
-  -- the same for its run
-  pub run_few : (m f arg : ℕ) (script : List ℕ) (r : Run) → least + length g.functions ≤ m → Kept (counts_for p (suc m) f) → thread_run p f handle arg script ≡ Some r → Few (counts_for p (suc m) f).creates r
-  run_few m f arg script r low kept e = run_few_at m f arg script r (slice_get g.functions f) refl low kept e
-
-  -- and for a run for which the script is too short
-  pub short_few : (m f arg : ℕ) (script : List ℕ) (s : ShortRun) → least + length g.functions ≤ m → Kept (counts_for p (suc m) f) → short_run p f handle arg script ≡ Some s → creates_in s.actions ≤ (counts_for p (suc m) f).creates
+  -- and a run for which the script is too short
+  pub short_few : (m f arg : ℕ) (script : List ℕ) (s : ShortRun) → least + length g.functions ≤ m → Kept (counts_for p (suc m) f) → short_run p f handle arg script ≡ Some s → Few (thread_size (counts_for p (suc m) f)) s.actions
   short_few m f arg script s low kept e =
-      let n : ℕ = (counts_for p (suc m) f).creates in
       let it : RanShort p f handle arg script s = ran_short p f handle arg script s e in
-      let grows : Grows Made n (begins script) it.state =
-      subst (λ (o : Outcome ⊥). Grows Made n (begins script) (state_in o)) it.goes ((thread_limited m f it.function arg low it.is kept).adds (begins script))
-      in
-      subst (λ (s : ShortRun). creates_in s.actions ≤ n) it.run (subst (λ acts. creates_in acts ≤ n) (sym grows.actions) grows.few)
+      subst (λ (s : ShortRun). Few (thread_size (counts_for p (suc m) f)) s.actions) it.run (outcome_few m f arg it.function script _ low kept it.is it.goes)

@@ -35,7 +35,7 @@ use Rattle.run_laws.specs.Words.{IsWord, IsWordIn, HasWordConstants, IsOfWords, 
 use Rattle.run_laws.proofs.Joint.{anything, Known}
 use Rattle.run_laws.proofs.JointBodies.{thread_body_carried}
 use Rattle.run_laws.proofs.Told.{twice, Ran, RanShort, ran, ran_short}
-use Rattle.run_laws.proofs.Started.{started_create_few, started_short_few, started_shallow}
+use Rattle.run_laws.proofs.Started.{started_create_few, started_short_small, started_shallow}
 use Rattle.run_laws.proofs.Reached.{all_few}
 use Rattle.run_laws.proofs.Wording.{word_values, words_closed, Fine, Words_from, Gives, Worded, gives_and, gives_make, gives_finish, words_carried}
 
@@ -108,7 +108,7 @@ module _ (p : Checked) (checked : IsChecked p) (constants : HasWordConstants p) 
   pub started_short_run_words : (s : ShortRun) → short_run p f handle arg script ≡ Some s → All IsOfWords s.actions
   started_short_run_words s e =
       short_run_words p f handle arg script constants argument words s e
-      (few_low d handle (creates_in s.actions) (started_shallow p checked d f started) low (started_short_few p checked d f handle arg script s started e))
+      (few_low d handle (creates_in s.actions) (started_shallow p checked d f started) low (started_short_small p checked d f handle arg script s started e).0)
 
 -- ---- candidates
 
@@ -139,7 +139,7 @@ module _ (runs : Runs) where
 all_at : {A : Type 0} (P : A → Type 0) (xs : List A) (k : ℕ) (x : A) → All P xs → slice_get xs k ≡ Some x → P x
 all_at P xs k x h e = subst P (get_or_from_slice_get xs k x x e) (h k x (slice_get_within xs k x e))
 
-all_from : {A : Type 0} (P : A → Type 0) (xs : List A) → ((k : ℕ) (x : A) → slice_get xs k ≡ Some x → P x) → All P xs
+pub all_from : {A : Type 0} (P : A → Type 0) (xs : List A) → ((k : ℕ) (x : A) → slice_get xs k ≡ Some x → P x) → All P xs
 all_from P xs h k d there = h k (slice_index_or xs k d) (slice_get-get_or xs k d there)
 
 module _ (p : Checked) (c : Candidate) (rs : List Run) (checked : IsChecked p) (constants : HasWordConstants p) (scripts : HasWords c) (runs : AllZip (RunsTo (thread_run p)) c.threads rs) (made : WellMade (shape_of p.program) (execution_of c rs)) where

@@ -17,6 +17,7 @@ ghost use Rattle.run_laws.specs.Turns.{HigherBoundsGoOn};
 ghost use Rattle.run_laws.specs.Bounded.{ScriptsAreBounded};
 ghost use Rattle.run_laws.specs.Sections.{RunsHaveSections, ShortRunsHaveSections};
 ghost use Rattle.run_laws.specs.Belonging.{RunsBelong, ShortRunsBelong, CellsAreFew};
+ghost use Rattle.run_laws.specs.Lengths.{RunsAreShort, ShortRunsAreShort, CandidatesAreShort};
 ghost use Rattle.run_laws.specs.Words.{RunsAreOfWords, ShortRunsAreOfWords, StartedRunsAreOfWords, StartedShortRunsAreOfWords, CandidatesAreOfWords};
 
 /// What the check of a program has counted holds of its runs, without an execution: a run of a function
@@ -26,6 +27,15 @@ pub fn started_threads_are_limited()
     ensures few { StartedCreateFew }
     ensures shallow { StartedIsShallow }
     ensures low_handles { StartedHandlesAreLow }
+{}
+
+/// A run has at most 135170 actions, by what the check of its program has counted: four for each access to a
+/// shared cell and for each call, argument and operator, and its first and last. So it is where a started
+/// function runs, also where the script is too short, and in each well made candidate.
+pub fn runs_are_short()
+    ensures whole { RunsAreShort }
+    ensures short { ShortRunsAreShort }
+    ensures of_candidates { CandidatesAreShort }
 {}
 
 /// Creates of one handle are one create: threads of different handles that run started functions create
