@@ -28,6 +28,7 @@ use Rattle.c_check.specs.WellFormed.{IsChecked}
 use Rattle.c_check.proofs.PlainNames.{all_map}
 use Rattle.run_model.specs.Programs.{shape_of}
 use Rattle.run_model.specs.Threads.{ProgramAllows, thread_run}
+use Rattle.run_laws.specs.Lengths.{CandidatesAreShort, IsShort}
 use Rattle.run_laws.specs.Words.{CandidatesAreOfWords, IsCandidateOfWords, IsWord}
 use Rattle.exec_check.specs.Conditions.{HasThreads}
 use Rattle.exec_check.specs.Running.{execution_in, run_by, runs_of, shape}
@@ -37,7 +38,7 @@ use Rattle.exec_check.proofs.Shaped.{cells_shaped, functions_shaped, shape_is}
 use Rattle.exec_check.proofs.Whole.{has_threads, part_at}
 use Rattle.witness_text.specs.Spelling.{HasEventNumbers, HasNumbers, HasPairNumbers, HasThreadNumbers, IsNumber, IsSpellable, event_before, handle_before, is_action, reader_before, rises, rises_from}
 use Rattle.witness_text.specs.Witness.{witness_text}
-use Rattle.answer_laws.specs.Spelled.{AcceptedHasWordConstants, AllowedIsSpelled, FailingIsSpelled, HasShortRuns, IsSpelled}
+use Rattle.answer_laws.specs.Spelled.{AcceptedHasWordConstants, AllowedIsSpelled, FailingIsSpelled, IsSpelled}
 use Rattle.answer_laws.proofs.Evident.{IsAction, all_at}
 use Rattle.answer_laws.proofs.Functions.{few_functions}
 use Rattle.answer_laws.proofs.Sorting.{AllApart, Sorted, apart_from, sorted}
@@ -71,7 +72,7 @@ acts : (x : Execution) (e : Event) → IsAction x e → is_action e ≡ true
 acts x Initial a = absurd (none-some a.0 a.1)
 acts x (At h i) a = refl
 
-module _ (p : Checked) (m : MemoryModel) (c : Candidate) (checked : IsChecked p) (few : length p.functions ≤ 65536) (allows : ProgramAllows p m c) (words : IsCandidateOfWords c allows.threads) (few_actions : HasShortRuns allows.threads) where
+module _ (p : Checked) (m : MemoryModel) (c : Candidate) (checked : IsChecked p) (few : length p.functions ≤ 65536) (allows : ProgramAllows p m c) (words : IsCandidateOfWords c allows.threads) (few_actions : All (λ (r : Run). IsShort r.actions) allows.threads) where
   abbrev seen : Execution
   seen = execution_in p c
 
@@ -85,7 +86,7 @@ module _ (p : Checked) (m : MemoryModel) (c : Candidate) (checked : IsChecked p)
   threads = has_threads p c made
 
   short : (k : ℕ) (r : Run) → slice_get (runs_of p c.threads) k ≡ Some r → length r.actions ≤ 2 ^ 32
-  short = subst (λ (rs : List Run). (k : ℕ) (r : Run) → slice_get rs k ≡ Some r → length r.actions ≤ 2 ^ 32) same_runs few_actions
+  short = subst (λ (rs : List Run). (k : ℕ) (r : Run) → slice_get rs k ≡ Some r → length r.actions ≤ 2 ^ 32) same_runs (λ k r e. let few = all_at (λ (r : Run). IsShort r.actions) allows.threads k r few_actions e in omega (arith, few))
 
   -- ---- numbers
 
@@ -188,13 +189,13 @@ module _ (p : Checked) (m : MemoryModel) (c : Candidate) (checked : IsChecked p)
     spells = record { numbers = numbers; spellable = spellable; spelled = refl };
   }
 
-module _ (of_words : CandidatesAreOfWords) (constants : AcceptedHasWordConstants) where
+module _ (of_words : CandidatesAreOfWords) (are_short : CandidatesAreShort) (constants : AcceptedHasWordConstants) where
   pub allowed_is_spelled : AllowedIsSpelled
-  allowed_is_spelled bound full text p m c acc a short =
+  allowed_is_spelled bound full text p m c acc a =
       let words = of_words p c a.threads acc.checked (constants bound full text p acc) a.words a.whole a.well_made in
-      spelled p m c acc.checked (few_functions bound full text p acc) a words short
+      spelled p m c acc.checked (few_functions bound full text p acc) a words (are_short p c a.threads acc.checked a.whole a.well_made)
 
 pub failing_is_spelled : AllowedIsSpelled → FailingIsSpelled
-failing_is_spelled allowed bound full text p m c acc x short =
-    let s = allowed bound full text p m c acc x.allowed short in
+failing_is_spelled allowed bound full text p m c acc x =
+    let s = allowed bound full text p m c acc x.allowed in
     record { candidate = s.candidate; text = s.text; fails = failing-reordered (shape_of p.program) (thread_run p) m c s.candidate s.reordered x; spells = s.spells }

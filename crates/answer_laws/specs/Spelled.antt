@@ -1,8 +1,7 @@
 -- Executions that have a text.
-use Rattle.std.specs.Prelude.{◌≡◌, ℕ, ◌≤◌, ◌^◌, Bool, List, Some, length, slice_get}
+use Rattle.std.specs.Prelude.{ℕ, Bool, List}
 use Rattle.axiom_model.specs.declared.MemoryModel.{MemoryModel}
 use Rattle.axiom_model.specs.declared.Candidate.{Candidate}
-use Rattle.axiom_model.specs.Failing.{Run}
 use Rattle.axiom_model.specs.Reordered.{ReorderedCandidate}
 use Rattle.c_check.specs.declared.checked.Checked.{Checked}
 use Rattle.c_check.specs.PlainNames.{cell_names}
@@ -15,10 +14,6 @@ use Rattle.c_program.specs.Accepting.{IsAccepted}
 abbrev pub AcceptedHasWordConstants : Type 0
 AcceptedHasWordConstants = (bound : ℕ) (full : Bool) (text : List ℕ) (p : Checked) → IsAccepted bound full text p → HasWordConstants p
 
--- the places of the actions have 32 bits
-abbrev pub HasShortRuns : List Run → Type 0
-HasShortRuns rs = (k : ℕ) (r : Run) → slice_get rs k ≡ Some r → length r.actions ≤ 2 ^ 32
-
 -- the candidate has a text, with its pairs in another order
 pub record IsSpelled (p : Checked) (c : Candidate) : Type 0 where
   pub candidate : Candidate
@@ -26,10 +21,10 @@ pub record IsSpelled (p : Checked) (c : Candidate) : Type 0 where
   pub reordered : ReorderedCandidate c candidate
   pub spells : Spells p.functions (cell_names p.cells) candidate text
 
--- so it is with each execution of an accepted text that a model allows, where its runs are short
+-- so it is with each execution of an accepted text that a model allows
 abbrev pub AllowedIsSpelled : Type 0
 AllowedIsSpelled =
-    (bound : ℕ) (full : Bool) (text : List ℕ) (p : Checked) (m : MemoryModel) (c : Candidate) → IsAccepted bound full text p → (a : ProgramAllows p m c) → HasShortRuns a.threads → IsSpelled p c
+    (bound : ℕ) (full : Bool) (text : List ℕ) (p : Checked) (m : MemoryModel) (c : Candidate) → IsAccepted bound full text p → ProgramAllows p m c → IsSpelled p c
 
 -- some failing execution of the program has a text
 pub record IsSpelledFailure (p : Checked) (m : MemoryModel) : Type 0 where
@@ -38,8 +33,7 @@ pub record IsSpelledFailure (p : Checked) (m : MemoryModel) : Type 0 where
   pub fails : ProgramFails p m candidate
   pub spells : Spells p.functions (cell_names p.cells) candidate text
 
--- so it is where one with short runs fails
+-- so it is where one fails
 abbrev pub FailingIsSpelled : Type 0
 FailingIsSpelled =
-    (bound : ℕ) (full : Bool) (text : List ℕ) (p : Checked) (m : MemoryModel) (c : Candidate) → IsAccepted bound full text p → (x : ProgramFails p m c) → HasShortRuns x.allowed.threads
-    → IsSpelledFailure p m
+    (bound : ℕ) (full : Bool) (text : List ℕ) (p : Checked) (m : MemoryModel) (c : Candidate) → IsAccepted bound full text p → ProgramFails p m c → IsSpelledFailure p m

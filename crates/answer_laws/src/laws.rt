@@ -4,7 +4,7 @@ ghost use Rattle.answer_laws.specs.Laws.{SomeAnswerIsAllowed, SomeReplayIsAllowe
 ghost use Rattle.answer_laws.specs.Spelled.{AcceptedHasWordConstants, AllowedIsSpelled, FailingIsSpelled};
 
 use c_program::not_neither;
-use run_laws::candidates_are_of_words;
+use run_laws::{candidates_are_of_words, runs_are_short};
 
 /// Each text spells a candidate or is refused at a line: a longest run of its whole lines with which some spelling begins is
 /// always there.
@@ -29,12 +29,12 @@ pub fn accepted_texts_have_word_constants()
     ensures { AcceptedHasWordConstants }
 {}
 
-/// Each execution of an accepted text that a model allows, whose runs have at most 2^32 actions, has a text, with its pairs in
-/// the order of their readers.
+/// Each execution of an accepted text that a model allows has a text, with its pairs in the order of their readers.
 pub fn allowed_is_spelled()
     ensures { AllowedIsSpelled }
 {
     candidates_are_of_words();
+    runs_are_short();
     accepted_texts_have_word_constants();
 }
 
