@@ -12,3 +12,6 @@ pub mod Passing
 pub mod Sieved
 pub mod Limits
 pub mod Answering
+pub mod Effects
+pub mod Running
+pub mod Kept

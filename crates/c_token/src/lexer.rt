@@ -41,7 +41,7 @@ fn first_long(macros: &[Macro<'_>]) -> Option<u32>
     ensures { (bodies : List (List Token)) → IsTable macros.now bodies → result ≡ option_map (λ body. capped (length body)) (first_long bodies) }
 {
     for one in macros {
-        let count = one.count();
+        let count = one.count;
         if count > MAX_MACRO {
             return Some(count);
         }
@@ -64,16 +64,16 @@ fn limited(alloc: Global, end: Place, sieve: &Sieve<'_>) -> Result<Answer, OutOf
 fn supported(
     alloc: Global,
     end: Place,
-    macros: &[Macro<'_>],
+    long: Option<u32>,
     sieve: &Sieve<'_>,
 ) -> Result<Answer, OutOfMemory>
     ensures { (bodies : List (List Token)) (all : List Token) → IsTable macros.now bodies → Sifts macros.now all (state sieve.now) → IfOk result (λ a. a ≡ supported end (find is_unsupported (kept all)) (first_long bodies) (kept all)) }
 {
-    if let Some(found) = &sieve.unsupported {
-        let shown = found.word.shown(alloc)?;
-        return Ok(Err(Refusal::Unsupported(found.word.place, shown)));
+    if let Some(word) = &sieve.unsupported {
+        let shown = word.shown(alloc)?;
+        return Ok(Err(Refusal::Unsupported(word.place, shown)));
     }
-    if let Some(count) = first_long(macros) {
+    if let Some(count) = long {
         return Ok(Err(Refusal::Limit(LimitKind::Macro, count)));
     }
     limited(alloc, end, sieve)
@@ -83,8 +83,10 @@ fn tokens_in(alloc: Global, end: Place, parts: &[Part<'_>]) -> Result<Answer, Ou
     ensures { IfOk result (λ a. a ≡ tokens_read end (read nothing_read (map segment parts.now))) }
 {
     let reader = read(alloc, parts)?;
-    let sieve = sift(alloc, reader.macros.as_slice(), reader.uses.as_slice())?;
-    supported(alloc, end, reader.macros.as_slice(), &sieve)
+    let macros = reader.macros.as_slice();
+    let long = first_long(macros);
+    let sieve = sift(alloc, macros, reader.uses.as_slice(), long.is_none())?;
+    supported(alloc, end, long, &sieve)
 }
 
 fn refused(stuck: Stuck) -> Result<Answer, OutOfMemory>

@@ -23,6 +23,7 @@ mod pieces;
 mod search;
 mod segments;
 mod sieve;
+mod skim;
 mod words;
 
 pub use token_list::{Token, TokenKind, Tokens, is_unsigned, number_value};
