@@ -71,7 +71,7 @@ context_is m (t ∷ ts) =
     context_is (context_after m (class_of t)) ts
     ∙ ap (λ (l : Last). record { in_extern = i; last = l }) (or_else (last_of f ts) (last_after m.in_extern (class_of t)) m.last)
 
-same_effect : (c d o p : ℕ) (e f : Bool) (l m : Option Last) → c ≡ d → o ≡ p → e ≡ f → l ≡ m
+pub same_effect : (c d o p : ℕ) (e f : Bool) (l m : Option Last) → c ≡ d → o ≡ p → e ≡ f → l ≡ m
     → record { closers = c; openers = o; in_extern = e; last = l } ≡ let r : Effect = record { closers = d; openers = p; in_extern = f; last = m } in r
 same_effect c d o p e f l m h i j k =
     ap (λ (x : ℕ). record { closers = x; openers = o; in_extern = e; last = l }) h

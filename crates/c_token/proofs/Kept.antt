@@ -14,7 +14,7 @@ use Rattle.c_token.specs.declared.skim.Region.{Region}
 use Rattle.c_token.specs.declared.skim.Region.TheVariants.{Live, Dead}
 use Rattle.c_token.specs.Dropping.{says, no_extern, past_semicolon, no_parameters, past_parameters, closes, no_attribute, past_attribute, past_group, is_dropped, no_words, kept}
 use Rattle.c_token.specs.Skimming.{class_of, extern_after, bracket, ahead, judged, context_after, Skim, put_last, goes_to, fed, run, beginning}
-use Rattle.c_token.proofs.Closing.{says_one, behind_close, behind_group, closes_behind, past_group_behind, left_no_right}
+use Rattle.c_token.proofs.Closing.{says_one, behind_close, behind_group, closes_behind, past_group_behind}
 
 -- what a class says of a token
 abbrev is_open : Class → Bool

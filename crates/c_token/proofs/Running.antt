@@ -102,7 +102,7 @@ run_alike i j s (t ∷ ts) h =
     (more_opened s.context.in_extern (class_of t) c o i j h)
 
 -- ---- places
-class_at : (p : Place) (t : Token) → class_of (put_at p t) ≡ class_of t
+pub class_at : (p : Place) (t : Token) → class_of (put_at p t) ≡ class_of t
 unfolding class_of
 class_at p t = refl
 

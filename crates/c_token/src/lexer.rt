@@ -1,5 +1,5 @@
 //! The tokens of a text, or why it has none.
-ghost use Rattle.std.specs.Prelude.{◌≡◌, ◌≤◌, List, map, take, length, find, option_map, None, Result, Err, IfOk};
+ghost use Rattle.std.specs.Prelude.{◌≡◌, ◌≤◌, List, map, take, length, find, option_map, None, is_none, Result, Err, IfOk};
 ghost use Rattle.dg_base.specs.declared.Place.{Place};
 ghost use Rattle.token_list.specs.declared.Token.{Token};
 ghost use Rattle.c_token.specs.Bytes.{capped};
@@ -67,7 +67,7 @@ fn supported(
     long: Option<u32>,
     sieve: &Sieve<'_>,
 ) -> Result<Answer, OutOfMemory>
-    ensures { (bodies : List (List Token)) (all : List Token) → IsTable macros.now bodies → Sifts macros.now all (state sieve.now) → IfOk result (λ a. a ≡ supported end (find is_unsupported (kept all)) (first_long bodies) (kept all)) }
+    ensures { (bodies : List (List Token)) (all : List Token) → long ≡ option_map (λ body. capped (length body)) (first_long bodies) → Sifts (is_none long) all (state sieve.now) → IfOk result (λ a. a ≡ supported end (find is_unsupported (kept all)) (first_long bodies) (kept all)) }
 {
     if let Some(word) = &sieve.unsupported {
         let shown = word.shown(alloc)?;

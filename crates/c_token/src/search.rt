@@ -1,11 +1,16 @@
 // All tokens of a text, macros replaced, through the sieve. A macro's tokens are passed at once where they don't end what is
 // left out, or where they were passed before in the same region.
-ghost use Rattle.std.specs.Prelude.{◌≡◌, ℕ, ◌+◌, ◌-◌, ◌≤◌, ◌<◌, Bool, List, [], ◌∷◌, length, drop, min, reverse, not, Some, None, IfOk, OnOk, IfSome, IsTrue};
+ghost use Rattle.std.specs.Prelude.{◌≡◌, ◌⊎◌, ℕ, ◌+◌, ◌-◌, ◌≤◌, ◌<◌, Bool, true, List, [], ◌∷◌, length, drop, unwrap_or, Some, None, IfOk, OnOk, IfSome, IsTrue};
+ghost use Rattle.std.specs.HashMap.{values};
+ghost use Rattle.std.specs.List.{All, IsAmong};
+ghost use Rattle.dg_base.specs.declared.Place.{Place};
 ghost use Rattle.token_list.specs.declared.Token.{Token};
-ghost use Rattle.c_token.specs.Skimming.{Skim, bounded, effect, effects, extern_behind, ahead};
+ghost use Rattle.c_token.specs.Skimming.{Skim, bounded, effects, extern_behind, ahead};
 ghost use Rattle.c_token.specs.Sieving.{state, is_full};
+ghost use Rattle.c_token.specs.Macros.{all_at};
+ghost use Rattle.c_token.specs.declared.skim.Kind.{Kind};
 ghost use Rattle.c_token.specs.Tables.{all_tokens, use_tokens, is_below, AllBelow, AreEnds, IsTable};
-ghost use Rattle.c_token.specs.Searching.{use_place, body_at, next_use, uses_of, frames_of, rest_of, Passes, ContextBehind, Known, Grows, GrowsBy, GoesOn, Frames, Seeks, IsFrame, FramesFit, IsOrdered, Sifts};
+ghost use Rattle.c_token.specs.Searching.{use_place, body_at, next_use, uses_of, frames_of, Grows, GrowsBy, GoesOn, IsPassage, left_passage, repeated, Seeks, IsFrame, FramesFit, IsOrdered, Sifts};
 
 use crate::macros::{Macro, Use, effects_behind, ends_of, use_effects};
 use crate::sieve::Sieve;
@@ -68,11 +73,12 @@ fn next_use<'a>(macros: &[Macro<'a>], frame: &Frame) -> Option<Use<'a>>
     begun.uses.get(frame.next).copied()
 }
 
-/// The effects of what stands behind the next use of a macro.
-fn effects_left(macros: &[Macro<'_>], frame: &Frame) -> Effects
+/// The effects of what stands behind the first uses of a macro.
+fn effects_left(macros: &[Macro<'_>], number: usize, first: usize) -> Effects
+    ensures { (bodies : List (List Token)) → IsTable macros.now bodies → first ≤ length (uses_of macros.now number) → result ≡ effects (all_tokens bodies (drop first (uses_of macros.now number))) }
 {
-    match macros.get(frame.entry.number) {
-        Some(begun) => effects_behind(begun.uses.as_slice(), begun.ends.as_slice(), frame.next + 1),
+    match macros.get(number) {
+        Some(begun) => effects_behind(begun.uses.as_slice(), begun.ends.as_slice(), first),
         None => Effects::nothing(),
     }
 }
@@ -85,6 +91,8 @@ fn closers_behind(
     after: &Effects,
     behind: usize,
 ) -> Result<usize, OutOfMemory>
+    requires { IsTrue (is_below (length macros.now) one.now) }
+    ensures { (bodies : List (List Token)) (rest : List Token) (k : ℕ) → IsTable macros.now bodies → after.now ≡ effects rest → behind ≡ bounded k → IfOk result (λ n. n ≡ bounded (ahead k (extern_behind in_extern (use_tokens bodies one.now)) rest)) }
 {
     let here = use_effects(macros, one).at(in_extern);
     ahead(&after.at(here.in_extern), behind)
@@ -92,6 +100,7 @@ fn closers_behind(
 
 /// The region behind tokens that don't end what is left out.
 fn region_behind(region: Region, effect: &Effect) -> Result<Option<Region>, OutOfMemory>
+    ensures { IfOk result (λ o. IfSome o (λ r. (kind : Kind) × ((n : ℕ) × ((region ≡ Dead kind n) × ((c d : ℕ) → effect.now.closers ≡ bounded c → effect.now.openers ≡ bounded d → (c ≤ n) × (r ≡ Dead kind (n - c + d))))))) }
 {
     match region {
         Region::Dead(kind, depth) if effect.closers <= depth => {
@@ -105,6 +114,7 @@ fn region_behind(region: Region, effect: &Effect) -> Result<Option<Region>, OutO
 
 /// What tokens say of the next one.
 fn context_behind(context: Context, effect: &Effect) -> Context
+    ensures { result ≡ record { in_extern = effect.now.in_extern; last = unwrap_or effect.now.last context.last } }
 {
     Context {
         in_extern: effect.in_extern,
@@ -115,8 +125,9 @@ fn context_behind(context: Context, effect: &Effect) -> Context
 impl<'a> Search<'a> {
     /// What stands behind a macro that was passed before, if no more of it is to be held.
     fn known(&self, entry: &Entry) -> Option<Passage>
+        ensures { IfSome result (λ p. (p.entry ≡ entry.now) × (IsAmong (values self.now.passages) p) × ((p.count ≡ 0) ⊎ (is_full (state self.now.sieve) ≡ true))) }
     {
-        let passage = self.passages.get(entry).copied()?;
+        let passage = *self.passages.get(entry)?;
         if passage.entry == *entry && (passage.count == 0 || self.sieve.is_full()) {
             Some(passage)
         } else {
@@ -126,6 +137,9 @@ impl<'a> Search<'a> {
 
     /// Passes a macro that was passed before.
     fn repeat(&mut self, passage: &Passage) -> Result<(), OutOfMemory>
+        ensures sieve { OnOk result (state self.new.sieve ≡ repeated passage.now (state self.old.sieve)) }
+        ensures passages { self.new.passages ≡ self.old.passages }
+        ensures frames { self.new.frames ≡ self.old.frames }
     {
         self.sieve.context = passage.context;
         self.sieve.region = passage.region;
@@ -137,6 +151,9 @@ impl<'a> Search<'a> {
 
     /// Passes a macro's tokens at once, or begins to pass them.
     fn enter(&mut self, macros: &[Macro<'a>], number: usize, behind: usize) -> Result<(), OutOfMemory>
+        requires { number < length macros.now }
+        ensures frames { OnOk result (Grows number (frames_of self.old) (frames_of self.new)) }
+        ensures seeks { (bodies : List (List Token)) (place : Place) (holds : Bool) (j : ℕ) (w : Skim) → IsTable macros.now bodies → behind ≡ bounded j → (state self.old.sieve).unsupported ≡ None → Seeks macros.now bodies place holds self.old (frames_of self.old) j (body_at place bodies number) w → OnOk result (Seeks macros.now bodies place holds self.new (frames_of self.new) 0 [] w) }
     {
         let used = &macros[number];
         let context = self.sieve.context;
@@ -175,6 +192,9 @@ impl<'a> Search<'a> {
         place: Place,
         behind: usize,
     ) -> Result<(), OutOfMemory>
+        requires { IsTrue (is_below (length macros.now) one) }
+        ensures frames { OnOk result (GrowsBy one.entry (frames_of self.old) (frames_of self.new)) }
+        ensures seeks { (bodies : List (List Token)) (holds : Bool) (j : ℕ) (w : Skim) → IsTable macros.now bodies → ((state self.old.sieve).unsupported ≡ None → behind ≡ bounded j) → Seeks macros.now bodies place holds self.old (frames_of self.old) j (all_at place (use_tokens bodies one.entry)) w → OnOk result (Seeks macros.now bodies place holds self.new (frames_of self.new) 0 [] w) }
     {
         if self.sieve.unsupported.is_some() {
             return Ok(());
@@ -187,6 +207,9 @@ impl<'a> Search<'a> {
 
     /// Ends a macro.
     fn leave(&mut self, frame: &Frame) -> Result<(), OutOfMemory>
+        ensures sieve { OnOk result (self.new.sieve ≡ self.old.sieve) }
+        ensures frames { OnOk result (self.new.frames ≡ self.old.frames) }
+        ensures passages { (bodies : List (List Token)) (holds : Bool) → OnOk result (All (IsPassage bodies holds) (values self.old.passages) → IsPassage bodies holds (left_passage (state self.old.sieve) frame.now) → All (IsPassage bodies holds) (values self.new.passages)) }
     {
         let passage = Passage {
             entry: frame.entry,
@@ -200,6 +223,10 @@ impl<'a> Search<'a> {
 
     /// Goes on in a macro.
     fn go_on(&mut self, macros: &[Macro<'a>], frame: Frame, place: Place) -> Result<(), OutOfMemory>
+        requires frame { IsFrame macros.now frame }
+        requires ordered { IsOrdered macros.now }
+        ensures frames { OnOk result (GoesOn macros.now frame (frames_of self.old) (frames_of self.new)) }
+        ensures seeks { (bodies : List (List Token)) (holds : Bool) (w : Skim) → IsTable macros.now bodies → Seeks macros.now bodies place holds self.old (frame ∷ frames_of self.old) 0 [] w → OnOk result (Seeks macros.now bodies place holds self.new (frames_of self.new) 0 [] w) }
     {
         if self.sieve.unsupported.is_some() {
             return Ok(());
@@ -207,16 +234,19 @@ impl<'a> Search<'a> {
         let Some(one) = next_use(macros, &frame) else {
             return self.leave(&frame);
         };
-        let after = effects_left(macros, &frame);
+        let next = plus(frame.next, 1)?;
+        let after = effects_left(macros, frame.entry.number, next);
         let in_extern = self.sieve.context.in_extern;
         let behind = closers_behind(macros, &one, in_extern, &after, frame.entry.behind)?;
-        let next = frame.next + 1;
         self.frames.push(Frame { next, ..frame })?;
         self.pass(macros, one, place, behind)
     }
 
     /// Passes what is left of the macros that were begun.
     fn finish(&mut self, macros: &[Macro<'a>], place: Place) -> Result<(), OutOfMemory>
+        requires frames { FramesFit macros.now (frames_of self.old) }
+        requires ordered { IsOrdered macros.now }
+        ensures { (bodies : List (List Token)) (holds : Bool) (w : Skim) → IsTable macros.now bodies → Seeks macros.now bodies place holds self.old (frames_of self.old) 0 [] w → OnOk result (Seeks macros.now bodies place holds self.new (frames_of self.new) 0 [] w × (frames_of self.new ≡ [])) }
     {
         while let Some(frame) = self.frames.pop() {
             self.go_on(macros, frame, place)?;
@@ -232,6 +262,9 @@ pub fn sift<'a>(
     uses: &[Use<'a>],
     holds: bool,
 ) -> Result<Sieve<'a>, OutOfMemory>
+    requires below { AllBelow (length macros.now) uses.now }
+    requires ordered { IsOrdered macros.now }
+    ensures { (bodies : List (List Token)) → IsTable macros.now bodies → IfOk result (λ sieve. Sifts holds (all_tokens bodies uses.now) (state sieve)) }
 {
     let ends = ends_of(alloc, macros, uses)?;
     let mut search = Search {
@@ -241,7 +274,7 @@ pub fn sift<'a>(
     };
     for (index, one) in uses.iter().enumerate() {
         let place = place_of(one);
-        let after = effects_behind(uses, ends.as_slice(), index + 1);
+        let after = effects_behind(uses, ends.as_slice(), plus(index, 1)?);
         let in_extern = search.sieve.context.in_extern;
         let behind = closers_behind(macros, one, in_extern, &after, 0)?;
         search.pass(macros, *one, place, behind)?;

@@ -1,7 +1,7 @@
 // Which tokens are kept, by one pass that knows of each bracket behind `__attribute__` whether it is closed.
 ghost use Rattle.std.specs.Prelude.{◌≡◌, ℕ, ◌+◌, ◌-◌, [], ◌∷◌, IfOk, unwrap_or};
 ghost use Rattle.token_list.specs.declared.Token.{Token};
-ghost use Rattle.c_token.specs.Skimming.{bounded, extern_after, last_after, context_after, judged_open, judged_live, judged_dead, judged, effect, effects, effect_in, class_of, Joins};
+ghost use Rattle.c_token.specs.Skimming.{bounded, bracket, open_more, extern_after, last_after, context_after, judged_open, judged_live, judged_dead, judged, effect, effects, effect_in, class_of, Joins};
 
 use dg_base::OutOfMemory;
 
@@ -155,13 +155,37 @@ pub fn context_after(context: Context, class: Class) -> Context
     }
 }
 
+fn closers_of(in_extern: bool, class: Class) -> usize
+    ensures { result ≡ bracket in_extern class 0 }
+{
+    if in_extern {
+        return 0;
+    }
+    match class {
+        Class::Close => 1,
+        _ => 0,
+    }
+}
+
+fn openers_of(in_extern: bool, class: Class) -> usize
+    ensures { result ≡ open_more in_extern class 0 0 }
+{
+    if in_extern {
+        return 0;
+    }
+    match class {
+        Class::Open => 1,
+        _ => 0,
+    }
+}
+
 /// The effect of one token.
 fn token_effect(in_extern: bool, class: Class) -> Effect
     ensures { (t : Token) → class ≡ class_of t → result ≡ effect in_extern (t ∷ []) }
 {
     Effect {
-        closers: usize::from(!in_extern && class == Class::Close),
-        openers: usize::from(!in_extern && class == Class::Open),
+        closers: closers_of(in_extern, class),
+        openers: openers_of(in_extern, class),
         in_extern: extern_after(in_extern, class),
         last: last_after(in_extern, class),
     }

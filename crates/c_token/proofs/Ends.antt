@@ -1,0 +1,119 @@
+-- The effects of tokens of uses, from the last one on.
+use Rattle.std.proofs.Common.{◌≡◌, ℕ, zero, suc, ◌+◌, ◌-◌, ◌<◌, ◌≤◌, Bool, true, false, List, [], ◌∷◌, ◌++◌, length, drop, get_or, slice_get, Option, Some, None, refl, sym, ap, subst, ◌∙◌, arith, length-append, add-one, drop-cons, ⊎_elim}
+use Rattle.std.proofs.lemmas.Bool.{cases_lt}
+use Rattle.std.specs.Option.{option_or}
+use Rattle.dg_base.specs.declared.Place.{Place}
+use Rattle.token_list.specs.declared.Token.{Token}
+use Rattle.c_token.specs.declared.macros.Macro.{Macro}
+use Rattle.c_token.specs.declared.macros.Use.{Use}
+use Rattle.c_token.specs.declared.macros.Use.TheVariants.{Plain, Macro as MacroUse}
+use Rattle.c_token.specs.declared.skim.Class.{Class}
+use Rattle.c_token.specs.declared.skim.Class.TheVariants.{Open, Close}
+use Rattle.c_token.specs.declared.skim.Effect.{Effect}
+use Rattle.c_token.specs.declared.skim.Effects.{Effects}
+use Rattle.c_token.specs.declared.skim.Last.{Last}
+use Rattle.c_token.specs.Macros.{put_at, all_at}
+use Rattle.c_token.specs.Seen.{token}
+use Rattle.c_token.specs.Skimming.{class_of, extern_after, extern_behind, last_after, last_of, bracket, ahead, open_more, opened, bounded, effect, effects, effect_in, Joins}
+use Rattle.c_token.specs.Tables.{use_tokens, all_tokens, AreEnds, IsMacro, IsTable}
+use Rattle.c_token.proofs.Effects.{effect_append, same_effect}
+use Rattle.c_token.proofs.Running.{class_at, extern_at, ahead_at, opened_at}
+
+-- one token
+abbrev one_of : Bool → Class → Effect
+one_of e c = record { closers = bracket e c 0; openers = open_more e c 0 0; in_extern = extern_after e c; last = last_after e c }
+
+abbrev held_of : Bool → Class → Effect
+held_of e c = record { closers = bounded (bracket e c 0); openers = bounded (open_more e c 0 0); in_extern = extern_after e c; last = option_or None (last_after e c) }
+
+one_held : (e : Bool) (c : Class) → one_of e c ≡ held_of e c
+one_held true _ = refl
+one_held false Open = refl
+one_held false Close = refl
+one_held false _ = refl
+
+pub token_effect_is : (e : Bool) (c : Class) (t : Token) → c ≡ class_of t → one_of e c ≡ effect e (t ∷ [])
+token_effect_is e c t h = one_held e c ∙ ap (held_of e) h
+
+-- ---- places
+last_at : (p : Place) (e : Bool) (ts : List Token) → last_of e (all_at p ts) ≡ last_of e ts
+last_at p e [] = refl
+last_at p e (t ∷ ts) =
+    ap (λ c. option_or (last_of (extern_after e c) (all_at p ts)) (last_after e c)) (class_at p t)
+    ∙ ap (λ l. option_or l (last_after e (class_of t))) (last_at p (extern_after e (class_of t)) ts)
+
+effect_at : (p : Place) (e : Bool) (ts : List Token) → effect e (all_at p ts) ≡ effect e ts
+effect_at p e ts = same_effect _ _ _ _ _ _ _ _ (ap bounded (ahead_at p 0 e ts)) (ap bounded (opened_at p e ts)) (extern_at p e ts) (last_at p e ts)
+
+pub effects_at : (p : Place) (ts : List Token) → effects (all_at p ts) ≡ effects ts
+effects_at p ts = ap (λ (x : Effect). record { outside = x; inside = effect true (all_at p ts) }) (effect_at p false ts) ∙ ap (λ (x : Effect). record { outside = effect false ts; inside = x }) (effect_at p true ts)
+
+-- ---- one list behind another
+pub effect_in_is : (e : Bool) (ts : List Token) → effect_in e (effects ts) ≡ effect e ts
+effect_in_is false ts = refl
+effect_in_is true ts = refl
+
+pub effects_append : (f s r : Effects) (a b : List Token) → f ≡ effects a → s ≡ effects b → Joins f.outside (effect_in f.outside.in_extern s) r.outside → Joins f.inside (effect_in f.inside.in_extern s) r.inside
+    → r ≡ effects (a ++ b)
+effects_append f s r a b h i j k =
+    let Both : Effects → Effects → Type 0 = λ f s. Joins f.outside (effect_in f.outside.in_extern s) r.outside × Joins f.inside (effect_in f.inside.in_extern s) r.inside in
+    let there = subst (Both (effects a)) i (subst (λ g. Both g s) h (j, k)) in
+    let outside = effect_append false a b r.outside (subst (λ g. Joins (effect false a) g r.outside) (effect_in_is (extern_behind false a) b) there.0) in
+    let inside = effect_append true a b r.inside (subst (λ g. Joins (effect true a) g r.inside) (effect_in_is (extern_behind true a) b) there.1) in
+    ap (λ (x : Effect). record { outside = x; inside = r.inside }) outside ∙ ap (λ (x : Effect). record { outside = effect false (a ++ b); inside = x }) inside
+
+-- ---- uses
+pub next_tokens : (bodies : List (List Token)) (uses : List Use) (i : ℕ) (d : Use) → i < length uses → all_tokens bodies (drop i uses) ≡ use_tokens bodies (get_or uses i d) ++ all_tokens bodies (drop (i + 1) uses)
+next_tokens bodies uses i d h = rw (add-one, drop-cons uses i d) refl
+
+got_front : {A : Type 0} (xs : List A) (x : A) (k : ℕ) → k < length xs → slice_get (xs ++ x ∷ []) k ≡ slice_get xs k
+got_front [] x k h = absurd (omega arith)
+got_front (y ∷ ys) x zero h = refl
+got_front (y ∷ ys) x (suc k) h = got_front ys x k (omega arith)
+
+got_last : {A : Type 0} (xs : List A) (x : A) (k : ℕ) → k ≡ length xs → slice_get (xs ++ x ∷ []) k ≡ Some x
+got_last [] x zero h = refl
+got_last [] x (suc k) h = absurd (omega arith)
+got_last (y ∷ ys) x zero h = absurd (omega arith)
+got_last (y ∷ ys) x (suc k) h = got_last ys x k (omega arith)
+
+-- the effects are known from this use on
+abbrev pub EndsFrom : List (List Token) → List Use → ℕ → List Effects → Type 0
+EndsFrom bodies uses first ends = (j : ℕ) → j ≤ length uses - first → slice_get ends j ≡ Some (effects (all_tokens bodies (drop (length uses - j) uses)))
+
+pub ends_more : (bodies : List (List Token)) (uses : List Use) (first next : ℕ) (ends : List Effects) (x : Effects) → first ≡ next + 1 → first ≤ length uses → length ends ≡ length uses - first + 1
+    → x ≡ effects (all_tokens bodies (drop next uses)) → EndsFrom bodies uses first ends → EndsFrom bodies uses next (ends ++ x ∷ [])
+ends_more bodies uses first next ends x e h len is before = λ j k.
+    ⊎_elim
+    (λ low. let within : j < length ends = omega arith in got_front ends x j within ∙ before j (omega arith))
+    (λ high.
+    let same : j ≡ length ends = omega arith in
+    let place : next ≡ length uses - j = omega arith in
+    got_last ends x j same ∙ ap Some (is ∙ ap (λ i. effects (all_tokens bodies (drop i uses))) place))
+    (cases_lt j (length uses - first + 1))
+
+-- what stands behind the first uses
+pub ends_at : (bodies : List (List Token)) (uses : List Use) (ends : List Effects) (first : ℕ) → AreEnds bodies uses ends → first ≤ length uses
+    → slice_get ends (length uses - first) ≡ Some (effects (all_tokens bodies (drop first uses)))
+ends_at bodies uses ends first are h =
+    let same : length uses - (length uses - first) ≡ first = omega arith in
+    are (length uses - first) (omega arith) ∙ ap (λ i. Some (effects (all_tokens bodies (drop i uses)))) same
+
+pub ends_some : (bodies : List (List Token)) (uses : List Use) (ends : List Effects) (first : ℕ) (x : Effects) → AreEnds bodies uses ends → first ≤ length uses → slice_get ends (length uses - first) ≡ Some x
+    → x ≡ effects (all_tokens bodies (drop first uses))
+ends_some bodies uses ends first x are h e = let there = ends_at bodies uses ends first are h in cc
+
+pub ends_none : {A : Type 0} (bodies : List (List Token)) (uses : List Use) (ends : List Effects) (first : ℕ) → AreEnds bodies uses ends → first ≤ length uses → slice_get ends (length uses - first) ≡ None → A
+ends_none bodies uses ends first are h e = let there = ends_at bodies uses ends first are h in absurd (let no : ⊥ = cc in no)
+
+got_in : {A : Type 0} (xs : List A) (n : ℕ) (x : A) → slice_get xs n ≡ Some x → (n < length xs) × (get_or xs n x ≡ x)
+got_in [] n x e = cc
+got_in (y ∷ ys) zero x e = let same : y ≡ x = cc in (omega arith, same)
+got_in (y ∷ ys) (suc n) x e = let there = got_in ys n x e in (omega (arith, there.0), there.1)
+
+-- the macro with a number is made of its body
+pub macro_here : (macros : List Macro) (bodies : List (List Token)) (n : ℕ) (m : Macro) → IsTable macros bodies → slice_get macros n ≡ Some m → IsMacro bodies n m (get_or bodies n [])
+macro_here macros bodies n m t e =
+    let there = got_in macros n m e in
+    let P : Macro → Type 0 = λ x. IsMacro bodies n x (get_or bodies n []) in
+    subst P there.1 (t.at n m there.0)
