@@ -93,3 +93,30 @@ holds_fed b s k t h none =
     let all : (m : Context) (r : Region) → Type 0 = λ m r. Holds
     (keep_if (judged m.in_extern b m.last r (class_of t)).keeps (record s { context = context_after m (class_of t); region = (judged m.in_extern b m.last r (class_of t)).region }) t) (fed b k t) in
     subst (λ m. all m s.region) (sym h.context) (subst (λ r. all k.context r) (sym h.region) here)
+
+-- feeding changes nothing of what is held
+pub feed_holds : (b : Bool) (s : State) (t : Token) → (feed b s t).holds ≡ s.holds
+feed_holds b s t = step (judged s.context.in_extern b s.context.last s.region (class_of t)).keeps
+  where
+    next : State
+    next = record s { context = context_after s.context (class_of t); region = (judged s.context.in_extern b s.context.last s.region (class_of t)).region }
+
+    room : (h : Bool) → (cond h (with_word next t) next).holds ≡ s.holds
+    room true = refl
+    room false = refl
+
+    found : (u : Bool) → (cond u (record next { unsupported = Some t }) (hold next t)).holds ≡ s.holds
+    found true = refl
+    found false = room s.holds
+
+    by : (o : Option Token) → (keep_found o next t).holds ≡ s.holds
+    by (Some u) = refl
+    by None = found (is_unsupported t)
+
+    dropped : (d : Bool) → (cond d next (keep_found s.unsupported next t)).holds ≡ s.holds
+    dropped true = refl
+    dropped false = by s.unsupported
+
+    step : (d : Bool) → (keep_if d next t).holds ≡ s.holds
+    step true = dropped (is_dropped t)
+    step false = refl

@@ -12,3 +12,4 @@ pub mod Running
 pub mod Kept
 pub mod Holding
 pub mod Ends
+pub mod Sifted

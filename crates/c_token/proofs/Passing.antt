@@ -20,7 +20,7 @@ use Rattle.c_token.specs.declared.skim.Kind.{Kind}
 use Rattle.c_token.specs.declared.skim.Region.{Region}
 use Rattle.c_token.specs.declared.skim.Region.TheVariants.{Dead}
 use Rattle.c_token.specs.Macros.{put_at, all_at}
-use Rattle.c_token.specs.Searching.{uses_in, uses_of, next_use, next_frame, body_at, rest_of, before, passed, IsPassage, left_passage, repeated, IsBegun, AreBegun, resumed, Leads, LeadsBy}
+use Rattle.c_token.specs.Searching.{uses_in, uses_of, next_use, next_frame, body_at, rest_of, before, passed, IsPassage, left_passage, repeated, IsBegun, AreBegun, resumed, Leads, LeadsBy, Seeking}
 use Rattle.c_token.specs.Seen.{token}
 use Rattle.c_token.specs.Sieving.{State, Has, feed, is_full}
 use Rattle.c_token.specs.Skimming.{Skim, class_of, extern_after, extern_behind, context_behind, ahead, opened, bounded, fed, run, effect}
@@ -28,7 +28,7 @@ use Rattle.c_token.specs.Tables.{use_tokens, all_tokens, IsMacro, IsTable}
 use Rattle.c_token.specs.Tokens.{is_unsupported}
 use Rattle.c_token.proofs.Effects.{context_is}
 use Rattle.c_token.proofs.Ends.{macro_here, next_tokens, got_in}
-use Rattle.c_token.proofs.Holding.{Holds, HasBy, holds_fed}
+use Rattle.c_token.proofs.Holding.{Holds, HasBy, holds_fed, feed_holds}
 use Rattle.c_token.proofs.Running.{run_append, run_dead, run_alike, run_moved, run_keeps, moved, extern_at, ahead_at, opened_at}
 
 -- ---- what is found stays found
@@ -220,8 +220,8 @@ leads_repeated macros bodies place holds s new fs j n w e p l i known is same fu
     leads_on macros bodies place s new fs j (body_at place bodies n) w l (ap (λ (x : State). x.holds) new_is) (outer place out (passed bodies p.entry)) gone
     (subst (λ (x : State). Has x (outer place out (passed bodies p.entry))) (sym new_is) (has_repeated bodies place holds p s out is same l.has.supported l.has.words l.has.count full))
 
-uses_here : (macros : List Macro) (bodies : List (List Token)) (n : ℕ) (d : Macro) → IsTable macros bodies → n < length macros → all_tokens bodies (uses_of macros n) ≡ get_or bodies n []
-uses_here macros bodies n d t h = step (slice_get macros n) refl
+uses_here : (macros : List Macro) (bodies : List (List Token)) (n : ℕ) → IsTable macros bodies → n < length macros → all_tokens bodies (uses_of macros n) ≡ get_or bodies n []
+uses_here macros bodies n t h = step (slice_get macros n) refl
   where
     step : (o : Option Macro) → slice_get macros n ≡ o → all_tokens bodies (uses_in o) ≡ get_or bodies n []
     step None e = absurd (none_above macros n h e)
@@ -233,13 +233,13 @@ uses_here macros bodies n d t h = step (slice_get macros n) refl
     step (Some m) e = (macro_here macros bodies n m t e).tokens
 
 -- a macro is begun
-pub leads_begun : (macros : List Macro) (bodies : List (List Token)) (place : Place) (s : State) (fs : List Frame) (j n : ℕ) (w : Skim) (f : Frame) (d : Macro) → IsTable macros bodies → n < length macros
+pub leads_begun : (macros : List Macro) (bodies : List (List Token)) (place : Place) (s : State) (fs : List Frame) (j n : ℕ) (w : Skim) (f : Frame) → IsTable macros bodies → n < length macros
     → Leads macros bodies place s fs j (body_at place bodies n) w → IsEntry s bodies n j f.entry → f.next ≡ 0 → f.count ≡ s.count → Leads macros bodies place s (f ∷ fs) 0 [] w
-leads_begun macros bodies place s fs j n w f d t within l i first count =
+leads_begun macros bodies place s fs j n w f t within l i first count =
     let begin = entered macros bodies place s fs j n w f.entry l i in
     let rest : rest_of macros bodies place f ≡ body_at place bodies f.entry.number =
     ap (λ x. all_at place (all_tokens bodies (drop x (uses_of macros f.entry.number)))) first
-    ∙ (ap (λ x. all_at place (all_tokens bodies (uses_of macros x))) i.0 ∙ (ap (all_at place) (uses_here macros bodies n d t within) ∙ ap (body_at place bodies) (sym i.0))) in
+    ∙ (ap (λ x. all_at place (all_tokens bodies (uses_of macros x))) i.0 ∙ (ap (all_at place) (uses_here macros bodies n t within) ∙ ap (body_at place bodies) (sym i.0))) in
     let gone : run j l.now (body_at place bodies n) ≡ run f.entry.behind l.now (rest_of macros bodies place f) = begin.0 ∙ ap (run f.entry.behind l.now) (sym rest) in
     record {
       now = l.now;
@@ -299,3 +299,73 @@ leads_next macros bodies place s fs w f u l e =
       );
       is = ap (resumed macros bodies place fs) (sym gone) ∙ l.is;
     }
+
+-- ---- the same of a search
+-- what is found stays so
+pub seeks_found : (macros : List Macro) (bodies : List (List Token)) (place : Place) (holds : Bool) (s : State) (known : List Passage) (fs gs : List Frame) (i j : ℕ) (us vs : List Token) (w : Skim)
+    → Seeking macros bodies place holds s known fs j us w → is_some s.unsupported ≡ true → Seeking macros bodies place holds s known gs i vs w
+seeks_found macros bodies place holds s known fs gs i j us vs w h e = record { holds_same = h.holds_same; passages = h.passages; leads = step s.unsupported h.leads e }
+  where
+    step : (o : Option Token) → LeadsBy o macros bodies place s fs j us w → is_some o ≡ true → LeadsBy o macros bodies place s gs i vs w
+    step (Some t) l e = l
+    step None l e = cc
+
+open_leads : (macros : List Macro) (bodies : List (List Token)) (place : Place) (holds : Bool) (s : State) (known : List Passage) (fs : List Frame) (j : ℕ) (us : List Token) (w : Skim)
+    → Seeking macros bodies place holds s known fs j us w → s.unsupported ≡ None → Leads macros bodies place s fs j us w
+open_leads macros bodies place holds s known fs j us w h none = subst (λ o. LeadsBy o macros bodies place s fs j us w) none h.leads
+
+seeks_open : (macros : List Macro) (bodies : List (List Token)) (place : Place) (holds : Bool) (s : State) (known : List Passage) (fs : List Frame) (j : ℕ) (us : List Token) (w : Skim) → s.holds ≡ holds
+    → All (IsPassage bodies holds) known → s.unsupported ≡ None → Leads macros bodies place s fs j us w → Seeking macros bodies place holds s known fs j us w
+seeks_open macros bodies place holds s known fs j us w same all none l = record { holds_same = same; passages = all; leads = subst (λ o. LeadsBy o macros bodies place s fs j us w) (sym none) l }
+
+pub seeks_fed : (macros : List Macro) (bodies : List (List Token)) (place : Place) (holds : Bool) (s new : State) (known : List Passage) (fs : List Frame) (j b : ℕ) (t : Token) (w : Skim)
+    → Seeking macros bodies place holds s known fs j (t ∷ []) w → s.unsupported ≡ None → b ≡ bounded j → new ≡ feed (nat_lt 0 b) s t → Seeking macros bodies place holds new known fs 0 [] w
+seeks_fed macros bodies place holds s new known fs j b t w h none e is =
+    let same : new.holds ≡ s.holds = ap (λ (x : State). x.holds) is ∙ feed_holds (nat_lt 0 b) s t in
+    record {
+      holds_same = same ∙ h.holds_same;
+      passages = h.passages;
+      leads = leads_fed macros bodies place s new fs j b t w (open_leads macros bodies place holds s known fs j (t ∷ []) w h none) none e is same;
+    }
+
+pub seeks_skipped : (macros : List Macro) (bodies : List (List Token)) (place : Place) (holds : Bool) (s new : State) (known : List Passage) (fs : List Frame) (j n : ℕ) (w : Skim) (kind : Kind) (depth c o : ℕ)
+    → Seeking macros bodies place holds s known fs j (body_at place bodies n) w → s.unsupported ≡ None → s.region ≡ Dead kind depth → c ≡ ahead 0 s.context.in_extern (get_or bodies n [])
+    → o ≡ opened s.context.in_extern (get_or bodies n []) → c ≤ depth → new ≡ record s { context = context_behind s.context (get_or bodies n []); region = Dead kind (depth - c + o) }
+    → Seeking macros bodies place holds new known fs 0 [] w
+seeks_skipped macros bodies place holds s new known fs j n w kind depth c o h none dead closers openers fits is =
+    seeks_open macros bodies place holds new known fs 0 [] w (ap (λ (x : State). x.holds) is ∙ h.holds_same) h.passages (ap (λ (x : State). x.unsupported) is ∙ none)
+    (leads_skipped macros bodies place s new fs j n w kind depth c o (open_leads macros bodies place holds s known fs j (body_at place bodies n) w h none) dead closers openers fits is)
+
+pub seeks_repeated : (macros : List Macro) (bodies : List (List Token)) (place : Place) (holds : Bool) (s new : State) (known : List Passage) (fs : List Frame) (j n : ℕ) (w : Skim) (e : Entry) (p : Passage)
+    → Seeking macros bodies place holds s known fs j (body_at place bodies n) w → s.unsupported ≡ None → IsEntry s bodies n j e → p.entry ≡ e → IsAmong known p → (p.count ≡ 0) ⊎ (is_full s ≡ true)
+    → new ≡ repeated p s → Seeking macros bodies place holds new known fs 0 [] w
+seeks_repeated macros bodies place holds s new known fs j n w e p h none i same among full is =
+    let P : Passage → Type 0 = IsPassage bodies holds in
+    let valid : IsPassage bodies holds p = subst P (sym among.1.1) (h.passages among.0 p among.1.0) in
+    seeks_open macros bodies place holds new known fs 0 [] w (ap (λ (x : State). x.holds) is ∙ h.holds_same) h.passages (ap (λ (x : State). x.unsupported) is ∙ none)
+    (leads_repeated macros bodies place holds s new fs j n w e p (open_leads macros bodies place holds s known fs j (body_at place bodies n) w h none) i same valid h.holds_same full is)
+
+pub seeks_begun : (macros : List Macro) (bodies : List (List Token)) (place : Place) (holds : Bool) (s : State) (known : List Passage) (fs : List Frame) (j n : ℕ) (w : Skim) (f : Frame) → IsTable macros bodies
+    → n < length macros → Seeking macros bodies place holds s known fs j (body_at place bodies n) w → s.unsupported ≡ None → IsEntry s bodies n j f.entry → f.next ≡ 0 → f.count ≡ s.count
+    → Seeking macros bodies place holds s known (f ∷ fs) 0 [] w
+seeks_begun macros bodies place holds s known fs j n w f t within h none i first count =
+    seeks_open macros bodies place holds s known (f ∷ fs) 0 [] w h.holds_same h.passages none
+    (leads_begun macros bodies place s fs j n w f t within (open_leads macros bodies place holds s known fs j (body_at place bodies n) w h none) i first count)
+
+pub seeks_left : (macros : List Macro) (bodies : List (List Token)) (place : Place) (holds : Bool) (s : State) (known after : List Passage) (fs : List Frame) (w : Skim) (f : Frame)
+    → Seeking macros bodies place holds s known (f ∷ fs) 0 [] w → s.unsupported ≡ None → next_use macros f ≡ None
+    → (All (IsPassage bodies holds) known → IsPassage bodies holds (left_passage s f) → All (IsPassage bodies holds) after) → Seeking macros bodies place holds s after fs 0 [] w
+seeks_left macros bodies place holds s known after fs w f h none end put =
+    let there = leads_left macros bodies place holds s fs w f (open_leads macros bodies place holds s known (f ∷ fs) 0 [] w h none) h.holds_same end in
+    seeks_open macros bodies place holds s after fs 0 [] w h.holds_same (put h.passages there.1) none there.0
+
+-- how many brackets close behind the next use
+abbrev pub next_closers : List Macro → List (List Token) → State → Frame → Use → ℕ
+next_closers macros bodies s f u = ahead f.entry.behind (extern_behind s.context.in_extern (use_tokens bodies u)) (all_tokens bodies (drop (f.next + 1) (uses_of macros f.entry.number)))
+
+pub seeks_next : (macros : List Macro) (bodies : List (List Token)) (place : Place) (holds : Bool) (s : State) (known : List Passage) (fs : List Frame) (w : Skim) (f : Frame) (u : Use)
+    → Seeking macros bodies place holds s known (f ∷ fs) 0 [] w → s.unsupported ≡ None → next_use macros f ≡ Some u
+    → Seeking macros bodies place holds s known (next_frame f ∷ fs) (next_closers macros bodies s f u) (all_at place (use_tokens bodies u)) w
+seeks_next macros bodies place holds s known fs w f u h none e =
+    seeks_open macros bodies place holds s known (next_frame f ∷ fs) (next_closers macros bodies s f u) (all_at place (use_tokens bodies u)) w h.holds_same h.passages none
+    (leads_next macros bodies place s fs w f u (open_leads macros bodies place holds s known (f ∷ fs) 0 [] w h none) e)

@@ -124,10 +124,13 @@ abbrev pub LeadsBy : Option Token → List Macro → List (List Token) → Place
 LeadsBy (Some t) macros bodies place s fs j us w = find is_unsupported w.kept ≡ Some t
 LeadsBy None macros bodies place s fs j us w = Leads macros bodies place s fs j us w
 
-pub record Seeks (macros : List Macro) (bodies : List (List Token)) (place : Place) (holds : Bool) (s : Search) (fs : List Frame) (j : ℕ) (us : List Token) (w : Skim) : Type 0 where
-  pub holds_same : s.sieve.holds ≡ holds
-  pub passages : All (IsPassage bodies holds) (values s.passages)
-  pub leads : LeadsBy (state s.sieve).unsupported macros bodies place (state s.sieve) fs j us w
+pub record Seeking (macros : List Macro) (bodies : List (List Token)) (place : Place) (holds : Bool) (s : State) (known : List Passage) (fs : List Frame) (j : ℕ) (us : List Token) (w : Skim) : Type 0 where
+  pub holds_same : s.holds ≡ holds
+  pub passages : All (IsPassage bodies holds) known
+  pub leads : LeadsBy s.unsupported macros bodies place s fs j us w
+
+abbrev pub Seeks : List Macro → List (List Token) → Place → Bool → Search → List Frame → ℕ → List Token → Skim → Type 0
+Seeks macros bodies place holds s fs j us w = Seeking macros bodies place holds (state s.sieve) (values s.passages) fs j us w
 
 -- What is left of these tokens: the first that isn't supported; and where there is none and they are held, the first ones
 -- and their number.

@@ -9,6 +9,7 @@ ghost use Rattle.c_token.specs.Skimming.{Skim, bounded, effects, extern_behind, 
 ghost use Rattle.c_token.specs.Sieving.{state, is_full};
 ghost use Rattle.c_token.specs.Macros.{all_at};
 ghost use Rattle.c_token.specs.declared.skim.Kind.{Kind};
+ghost use Rattle.c_token.specs.declared.skim.Region.TheVariants.{Dead};
 ghost use Rattle.c_token.specs.Tables.{all_tokens, use_tokens, is_below, AllBelow, AreEnds, IsTable};
 ghost use Rattle.c_token.specs.Searching.{use_place, body_at, next_use, uses_of, frames_of, Grows, GrowsBy, GoesOn, IsPassage, left_passage, repeated, Seeks, IsFrame, FramesFit, IsOrdered, Sifts};
 

@@ -1,7 +1,7 @@
 // The tokens that are left, held as they come.
-ghost use Rattle.std.specs.Prelude.{◌≡◌, ◌+◌, OnOk, option_map, map};
+ghost use Rattle.std.specs.Prelude.{◌≡◌, OnOk};
 ghost use Rattle.c_token.specs.Seen.{token};
-ghost use Rattle.c_token.specs.Sieving.{state, keep, keep_found, hold, feed, beginning};
+ghost use Rattle.c_token.specs.Sieving.{state, keep, hold, feed, beginning, is_full};
 
 use crate::skim::{Context, Last, Region, context_after, judged, plus};
 use crate::words::Word;
