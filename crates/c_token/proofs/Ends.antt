@@ -13,6 +13,7 @@ use Rattle.c_token.specs.declared.skim.Effect.{Effect}
 use Rattle.c_token.specs.declared.skim.Effects.{Effects}
 use Rattle.c_token.specs.declared.skim.Last.{Last}
 use Rattle.c_token.specs.Macros.{put_at, all_at}
+use Rattle.c_token.specs.Searching.{uses_in, uses_of}
 use Rattle.c_token.specs.Seen.{token}
 use Rattle.c_token.specs.Skimming.{class_of, extern_after, extern_behind, last_after, last_of, bracket, ahead, open_more, opened, bounded, effect, effects, effect_in, Joins}
 use Rattle.c_token.specs.Tables.{use_tokens, all_tokens, AreEnds, IsMacro, IsTable}
@@ -106,7 +107,7 @@ ends_some bodies uses ends first x are h e = let there = ends_at bodies uses end
 pub ends_none : {A : Type 0} (bodies : List (List Token)) (uses : List Use) (ends : List Effects) (first : ℕ) → AreEnds bodies uses ends → first ≤ length uses → slice_get ends (length uses - first) ≡ None → A
 ends_none bodies uses ends first are h e = let there = ends_at bodies uses ends first are h in absurd (let no : ⊥ = cc in no)
 
-got_in : {A : Type 0} (xs : List A) (n : ℕ) (x : A) → slice_get xs n ≡ Some x → (n < length xs) × (get_or xs n x ≡ x)
+pub got_in : {A : Type 0} (xs : List A) (n : ℕ) (x : A) → slice_get xs n ≡ Some x → (n < length xs) × (get_or xs n x ≡ x)
 got_in [] n x e = cc
 got_in (y ∷ ys) zero x e = let same : y ≡ x = cc in (omega arith, same)
 got_in (y ∷ ys) (suc n) x e = let there = got_in ys n x e in (omega (arith, there.0), there.1)
@@ -117,3 +118,38 @@ macro_here macros bodies n m t e =
     let there = got_in macros n m e in
     let P : Macro → Type 0 = λ x. IsMacro bodies n x (get_or bodies n []) in
     subst P there.1 (t.at n m there.0)
+
+-- the effects behind the first uses of a macro
+pub effects_from : (macros : List Macro) (bodies : List (List Token)) (n : ℕ) (m : Macro) (us : List Use) (es : List Effects) (first : ℕ) (r : Effects) → IsTable macros bodies → slice_get macros n ≡ Some m → us ≡ m.uses → es ≡ m.ends
+    → (AreEnds bodies us es → first ≤ length us → r ≡ effects (all_tokens bodies (drop first us))) → first ≤ length (uses_of macros n) → r ≡ effects (all_tokens bodies (drop first (uses_of macros n)))
+effects_from macros bodies n m us es first r t e k l f h =
+    let made = macro_here macros bodies n m t e in
+    let same : uses_of macros n ≡ us = ap uses_in e ∙ sym k in
+    f (subst (λ x. AreEnds bodies x es) (sym k) (subst (λ y. AreEnds bodies m.uses y) (sym l) made.ends)) (subst (λ x. first ≤ length x) same h)
+    ∙ ap (λ x. effects (all_tokens bodies (drop first x))) (sym same)
+
+pub effects_from_none : (macros : List Macro) (bodies : List (List Token)) (n first : ℕ) (r : Effects) → slice_get macros n ≡ None → r ≡ effects [] → r ≡ effects (all_tokens bodies (drop first (uses_of macros n)))
+effects_from_none macros bodies n first r e h = h ∙ (sym (nothing first) ∙ ap (λ x. effects (all_tokens bodies (drop first (uses_in x)))) (sym e))
+  where
+    nothing : (k : ℕ) → effects (all_tokens bodies (drop k [])) ≡ effects []
+    nothing zero = refl
+    nothing (suc k) = refl
+
+-- the effects of a macro
+pub effects_used : (macros : List Macro) (bodies : List (List Token)) (n : ℕ) (used : Macro) (us : List Use) (es : List Effects) (r : Effects) → IsTable macros bodies → n < length macros → used ≡ get_or macros n used → us ≡ used.uses
+    → es ≡ used.ends → (AreEnds bodies us es → 0 ≤ length us → r ≡ effects (all_tokens bodies (drop 0 us))) → r ≡ effects (get_or bodies n [])
+effects_used macros bodies n used us es r t h is k l f =
+    let P : Macro → Type 0 = λ x. IsMacro bodies n x (get_or bodies n []) in
+    let made : IsMacro bodies n used (get_or bodies n []) = subst P (sym is) (t.at n used h) in
+    f (subst (λ x. AreEnds bodies x es) (sym k) (subst (λ y. AreEnds bodies used.uses y) (sym l) made.ends)) (omega arith)
+    ∙ (ap (λ x. effects (all_tokens bodies x)) k ∙ ap effects made.tokens)
+
+pub use_effects_are : (macros : List Macro) (bodies : List (List Token)) (n : ℕ) (p : Place) (one : Use) (r : Effects) → one ≡ MacroUse n p → r ≡ effects (get_or bodies n []) → r ≡ effects (use_tokens bodies one)
+use_effects_are macros bodies n p one r is h = h ∙ (sym (effects_at p (get_or bodies n [])) ∙ ap (λ u. effects (use_tokens bodies u)) (sym is))
+
+-- what closes behind a use
+pub closers_are : (bodies : List (List Token)) (ut rest : List Token) (e : Bool) (used : Effects) (here there : Effect) (after : Effects) → used ≡ effects ut → here ≡ effect_in e used → after ≡ effects rest
+    → there ≡ effect_in here.in_extern after → there ≡ effect (extern_behind e ut) rest
+closers_are bodies ut rest e used here there after h i j k =
+    let first : here ≡ effect e ut = i ∙ (ap (effect_in e) h ∙ effect_in_is e ut) in
+    k ∙ (ap (λ (x : Effect). effect_in x.in_extern after) first ∙ (ap (effect_in (extern_behind e ut)) j ∙ effect_in_is (extern_behind e ut) rest))

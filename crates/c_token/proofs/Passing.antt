@@ -1,5 +1,5 @@
 -- Each step of a search leads to what comes of all tokens.
-use Rattle.std.proofs.Common.{◌≡◌, ℕ, zero, suc, ◌+◌, ◌-◌, ◌<◌, ◌≤◌, Bool, true, false, cond, not, ◌||◌, IsTrue, List, [], ◌∷◌, ◌++◌, map, length, take, drop, get_or, nat_lt, nat_le, slice_get, find, min, unwrap_or, Option, Some, None, is_some, option_map, refl, sym, ap, subst, ◌∙◌, arith, append_assoc, append-nil, length-append, ⊎_elim, ◌⊎◌}
+use Rattle.std.proofs.Common.{◌≡◌, ℕ, zero, suc, ◌+◌, ◌-◌, ◌<◌, ◌≤◌, Bool, true, false, cond, not, ◌||◌, IsTrue, List, [], ◌∷◌, ◌++◌, map, length, take, drop, get_or, nat_lt, nat_le, slice_get, find, min, unwrap_or, Option, Some, None, is_some, option_map, refl, sym, ap, subst, ◌∙◌, arith, append_assoc, append-nil, length-append, ⊎_elim, ◌⊎◌, Result, Ok, Err, OnOk}
 use Rattle.std.proofs.lemmas.Bool.{cases_lt, lt-ltb, le-ltb, le-leb, leb-true}
 use Rattle.std.proofs.lemmas.List.{map-append, length-map, take-append-le}
 use Rattle.std.proofs.lemmas.List.Folds.{find-append}
@@ -16,6 +16,7 @@ use Rattle.c_token.specs.declared.search.Frame.{Frame}
 use Rattle.c_token.specs.declared.search.Passage.{Passage}
 use Rattle.c_token.specs.declared.sieve.TheConstants.{MAX_TOKENS}
 use Rattle.c_token.specs.declared.skim.Context.{Context}
+use Rattle.c_token.specs.declared.skim.Effect.{Effect}
 use Rattle.c_token.specs.declared.skim.Kind.{Kind}
 use Rattle.c_token.specs.declared.skim.Region.{Region}
 use Rattle.c_token.specs.declared.skim.Region.TheVariants.{Dead}
@@ -25,7 +26,7 @@ use Rattle.c_token.specs.Seen.{token}
 use Rattle.c_token.specs.Sieving.{State, Has, feed, is_full}
 use Rattle.c_token.specs.Skimming.{Skim, class_of, extern_after, extern_behind, context_behind, ahead, opened, bounded, fed, run, effect}
 use Rattle.c_token.specs.Tables.{use_tokens, all_tokens, IsMacro, IsTable}
-use Rattle.c_token.specs.Tokens.{is_unsupported}
+use Rattle.c_token.specs.Tokens.{is_unsupported, is_unsupported_name}
 use Rattle.c_token.proofs.Effects.{context_is}
 use Rattle.c_token.proofs.Ends.{macro_here, next_tokens, got_in}
 use Rattle.c_token.proofs.Holding.{Holds, HasBy, holds_fed, feed_holds}
@@ -369,3 +370,46 @@ pub seeks_next : (macros : List Macro) (bodies : List (List Token)) (place : Pla
 seeks_next macros bodies place holds s known fs w f u h none e =
     seeks_open macros bodies place holds s known (next_frame f ∷ fs) (next_closers macros bodies s f u) (all_at place (use_tokens bodies u)) w h.holds_same h.passages none
     (leads_next macros bodies place s fs w f u (open_leads macros bodies place holds s known (f ∷ fs) 0 [] w h none) e)
+
+-- ---- a macro is entered
+-- the region behind tokens with this effect that don't end what is left out
+abbrev pub RegionBehind : Region → Effect → Region → Type 0
+RegionBehind old e new = (kind : Kind) × ((n : ℕ) × ((old ≡ Dead kind n) × ((c d : ℕ) → e.closers ≡ bounded c → e.openers ≡ bounded d → (c ≤ n) × (new ≡ Dead kind (n - c + d)))))
+
+pub seeks_passed : (macros : List Macro) (bodies : List (List Token)) (place : Place) (holds : Bool) (s new : State) (known : List Passage) (fs : List Frame) (j n : ℕ) (w : Skim) (e : Effect) (r : Region)
+    → Seeking macros bodies place holds s known fs j (body_at place bodies n) w → s.unsupported ≡ None → e ≡ effect s.context.in_extern (get_or bodies n []) → RegionBehind s.region e r
+    → new ≡ record s { context = record { in_extern = e.in_extern; last = unwrap_or e.last s.context.last }; region = r } → Seeking macros bodies place holds new known fs 0 [] w
+seeks_passed macros bodies place holds s new known fs j n w e r h none is behind same =
+    let body = get_or bodies n [] in
+    let there = behind.1.1.1 (ahead 0 s.context.in_extern body) (opened s.context.in_extern body) (ap (λ (x : Effect). x.closers) is) (ap (λ (x : Effect). x.openers) is) in
+    let context : record { in_extern = e.in_extern; last = unwrap_or e.last s.context.last } ≡ context_behind s.context body =
+    ap (λ (x : Effect). record { in_extern = x.in_extern; last = unwrap_or x.last s.context.last }) is ∙ sym (context_is s.context body) in
+    seeks_skipped macros bodies place holds s new known fs j n w behind.0 behind.1.0 (ahead 0 s.context.in_extern body) (opened s.context.in_extern body) h none behind.1.1.0 refl refl there.0
+    (same ∙ (ap (λ (m : Context). record s { context = m; region = r }) context ∙ ap (λ (x : Region). record s { context = context_behind s.context body; region = x }) there.1))
+
+-- the entry of a macro
+pub is_entry : (s : State) (bodies : List (List Token)) (n j b least m : ℕ) (e : Effect) (entry : Entry) → e ≡ effect s.context.in_extern (get_or bodies n []) → b ≡ bounded j → least ≡ min b e.openers
+    → ((x : ℕ) → least ≡ bounded x → m ≡ x) → entry ≡ record { number = n; context = s.context; region = s.region; behind = m } → IsEntry s bodies n j entry
+is_entry s bodies n j b least m e entry is from lowest exact same =
+    let o = opened s.context.in_extern (get_or bodies n []) in
+    let openers : e.openers ≡ bounded o = ap (λ (x : Effect). x.openers) is in
+    let behind : m ≡ min j o = exact (min j o) (omega arith) in
+    (
+      ap (λ (x : Entry). x.number) same,
+      ap (λ (x : Entry). x.context) same,
+      ap (λ (x : Entry). x.region) same,
+      ap (λ (x : Entry). x.behind) same ∙ behind,
+    )
+
+-- ---- results of calls
+pub on_ok : {T E : Type 0} (r : Result T E) (H G : Type 0) → (H → G) → OnOk r H → OnOk r G
+on_ok (Ok x) H G f h = f h
+on_ok (Err e) H G f h = h
+
+pub on_ok_thrice : {T E : Type 0} (r : Result T E) (H I J G : Type 0) → (H → I → J → G) → OnOk r H → OnOk r I → OnOk r J → OnOk r G
+on_ok_thrice (Ok x) H I J G f h i j = f h i j
+on_ok_thrice (Err e) H I J G f h i j = h
+
+pub no_word : {A B : Type 0} (f : A → B) (o : Option A) → is_some o ≡ false → option_map f o ≡ None
+no_word f None h = refl
+no_word f (Some x) h = cc

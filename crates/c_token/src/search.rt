@@ -15,7 +15,7 @@ ghost use Rattle.c_token.specs.Searching.{use_place, body_at, next_use, uses_of,
 
 use crate::macros::{Macro, Use, effects_behind, ends_of, use_effects};
 use crate::sieve::Sieve;
-use crate::skim::{Context, Effect, Effects, Region, ahead, exact, plus};
+use crate::skim::{Context, Effect, Effects, Region, ahead, exact, least, plus};
 use crate::words::Word;
 use dg_base::{OutOfMemory, Place};
 use std::alloc::Global;
@@ -166,7 +166,7 @@ impl<'a> Search<'a> {
             self.sieve.region = region;
             return Ok(());
         }
-        let behind = exact(behind.min(effect.openers))?;
+        let behind = exact(least(behind, effect.openers))?;
         let entry = Entry {
             number,
             context,

@@ -1,5 +1,5 @@
 // Which tokens are kept, by one pass that knows of each bracket behind `__attribute__` whether it is closed.
-ghost use Rattle.std.specs.Prelude.{◌≡◌, ℕ, ◌+◌, ◌-◌, [], ◌∷◌, IfOk, unwrap_or};
+ghost use Rattle.std.specs.Prelude.{◌≡◌, ℕ, ◌+◌, ◌-◌, [], ◌∷◌, min, IfOk, unwrap_or};
 ghost use Rattle.token_list.specs.declared.Token.{Token};
 ghost use Rattle.c_token.specs.Skimming.{bounded, bracket, open_more, extern_after, last_after, context_after, judged_open, judged_live, judged_dead, judged, effect, effects, effect_in, class_of, Joins};
 
@@ -82,9 +82,17 @@ pub fn plus(a: usize, b: usize) -> Result<usize, OutOfMemory>
 
 /// A number that is given up to 2^64 - 1.
 pub fn exact(n: usize) -> Result<usize, OutOfMemory>
-    ensures { IfOk result (λ m. (x : ℕ) → n ≡ bounded x → m ≡ x) }
+    ensures same { IfOk result (λ m. m ≡ n) }
+    ensures exact { IfOk result (λ m. (x : ℕ) → n ≡ bounded x → m ≡ x) }
 {
     if n == usize::MAX { Err(OutOfMemory) } else { Ok(n) }
+}
+
+/// The smaller of two numbers.
+pub fn least(a: usize, b: usize) -> usize
+    ensures { result ≡ min a b }
+{
+    a.min(b)
 }
 
 /// A difference of numbers that are given up to 2^64 - 1.
@@ -99,7 +107,7 @@ fn minus(a: usize, b: usize) -> Result<usize, OutOfMemory>
 
 /// How many brackets close behind tokens with this effect and aren't opened there, where so many do behind what follows.
 pub fn ahead(effect: &Effect, behind: usize) -> Result<usize, OutOfMemory>
-    ensures { IfOk result (λ n. (c o k : ℕ) → effect.now.closers ≡ bounded c → effect.now.openers ≡ bounded o → behind ≡ bounded k → n ≡ bounded (c + (k - o))) }
+    ensures { (c o k : ℕ) → effect.now.closers ≡ bounded c → effect.now.openers ≡ bounded o → behind ≡ bounded k → IfOk result (λ n. n ≡ bounded (c + (k - o))) }
 {
     let through = minus(behind, effect.openers)?;
     Ok(effect.closers.saturating_add(through))
