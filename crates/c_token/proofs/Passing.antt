@@ -1,10 +1,14 @@
 -- Each step of a search leads to what comes of all tokens.
-use Rattle.std.proofs.Common.{◌≡◌, ℕ, zero, suc, ◌+◌, ◌-◌, ◌<◌, ◌≤◌, Bool, true, false, cond, not, ◌||◌, IsTrue, List, [], ◌∷◌, ◌++◌, map, length, take, drop, get_or, nat_lt, nat_le, slice_get, find, min, unwrap_or, Option, Some, None, is_some, option_map, refl, sym, ap, subst, ◌∙◌, arith, append_assoc, append-nil, length-append, ⊎_elim, ◌⊎◌, Result, Ok, Err, OnOk}
+use Rattle.std.proofs.Common.{◌≡◌, ℕ, zero, suc, ◌+◌, ◌-◌, ◌<◌, ◌≤◌, Bool, true, false, cond, not, ◌||◌, IsTrue, List, [], ◌∷◌, ◌++◌, map, length, take, drop, get_or, nat_lt, nat_le, slice_get, find, min, unwrap_or, Option, Some, None, is_some, option_map, refl, sym, ap, subst, ◌∙◌, arith, append_assoc, append-nil, length-append, ⊎_elim, ◌⊎◌, Result, Ok, Err, OnOk, MatchOption}
 use Rattle.std.proofs.lemmas.Bool.{cases_lt, lt-ltb, le-ltb, le-leb, leb-true}
 use Rattle.std.proofs.lemmas.List.{map-append, length-map, take-append-le}
+use Rattle.std.proofs.lemmas.List.Elements.{All-cons, All-same}
 use Rattle.std.proofs.lemmas.List.Folds.{find-append}
+use Rattle.std.proofs.lemmas.Map.Views.{All-map-IsPermutation, All-values-set_value}
 use Rattle.std.specs.HashMap.{values}
 use Rattle.std.specs.List.{All, IsAmong}
+use Rattle.std.specs.List.Sorted.{IsPermutation}
+use Rattle.std.specs.Map.{set_value, values_of}
 use Rattle.std.specs.Option.{option_or}
 use Rattle.dg_base.specs.declared.Place.{Place}
 use Rattle.token_list.specs.declared.Token.{Token}
@@ -413,3 +417,9 @@ on_ok_thrice (Err e) H I J G f h i j = h
 pub no_word : {A B : Type 0} (f : A → B) (o : Option A) → is_some o ≡ false → option_map f o ≡ None
 no_word f None h = refl
 no_word f (Some x) h = cc
+
+-- one more passage
+pub all_put : {K : Type 0} (P : Passage → Type 0) (test : K → Bool) (es fs : List (K × Passage)) (k : K) (v : Passage) (old : Option Passage)
+    → MatchOption old (IsPermutation ((k, v) ∷ es) fs) (λ _. fs ≡ set_value test es v) → All P (values_of es) → P v → All P (values_of fs)
+all_put P test es fs k v None p a h = All-map-IsPermutation (λ e. e.1) P ((k, v) ∷ es) fs p (All-cons P v (values_of es) h a)
+all_put P test es fs k v (Some o) p a h = All-same P (values_of fs) (values_of (set_value test es v)) (ap values_of p) (All-values-set_value test P es v a h)
