@@ -112,6 +112,26 @@ got_in [] n x e = cc
 got_in (y ∷ ys) zero x e = let same : y ≡ x = cc in (omega arith, same)
 got_in (y ∷ ys) (suc n) x e = let there = got_in ys n x e in (omega (arith, there.0), there.1)
 
+pub got_or : {A : Type 0} (xs : List A) (n : ℕ) (x : A) → n < length xs → x ≡ get_or xs n x → slice_get xs n ≡ Some x
+got_or [] n x h e = absurd (omega arith)
+got_or (y ∷ ys) zero x h e = ap Some (sym e)
+got_or (y ∷ ys) (suc n) x h e = got_or ys n x (omega arith) e
+
+pub got_past : {A : Type 0} (xs : List A) (n : ℕ) → length xs ≤ n → slice_get xs n ≡ None
+got_past [] n h = refl
+got_past (y ∷ ys) zero h = absurd (omega arith)
+got_past (y ∷ ys) (suc n) h = got_past ys n (omega arith)
+
+-- one more use, from the last one on
+pub ends_step : (bodies : List (List Token)) (uses : List Use) (first : ℕ) (d : Use) (f s r : Effects) → f ≡ effects (use_tokens bodies (get_or uses (first - 1) d)) → 0 < first → first ≤ length uses
+    → s ≡ effects (all_tokens bodies (drop first uses)) → Joins f.outside (effect_in f.outside.in_extern s) r.outside × Joins f.inside (effect_in f.inside.in_extern s) r.inside
+    → r ≡ effects (all_tokens bodies (drop (first - 1) uses))
+ends_step bodies uses first d f s r h some within i j =
+    let same : first ≡ first - 1 + 1 = omega arith in
+    let low : first - 1 < length uses = omega arith in
+    effects_append f s r (use_tokens bodies (get_or uses (first - 1) d)) (all_tokens bodies (drop (first - 1 + 1) uses)) h (i ∙ ap (λ k. effects (all_tokens bodies (drop k uses))) same) j.0 j.1
+    ∙ ap effects (sym (next_tokens bodies uses (first - 1) d low))
+
 -- the macro with a number is made of its body
 pub macro_here : (macros : List Macro) (bodies : List (List Token)) (n : ℕ) (m : Macro) → IsTable macros bodies → slice_get macros n ≡ Some m → IsMacro bodies n m (get_or bodies n [])
 macro_here macros bodies n m t e =

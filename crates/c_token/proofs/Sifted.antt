@@ -21,6 +21,7 @@ use Rattle.c_token.specs.Sieving as sieving
 use Rattle.c_token.specs.Skimming.{Skim, extern_behind, ahead, bounded, run, beginning}
 use Rattle.c_token.specs.Tables.{use_tokens, all_tokens}
 use Rattle.c_token.specs.Tokens.{is_unsupported}
+use Rattle.c_token.proofs.Ends.{next_tokens}
 use Rattle.c_token.proofs.Holding.{HasBy}
 use Rattle.c_token.proofs.Kept.{run_kept}
 use Rattle.c_token.proofs.Passing.{run_found, tokens_at}
@@ -88,6 +89,24 @@ between_next macros bodies place holds old new u rest all b fs none s =
     step : (w : Skim) (o : Option Token) → LeadsBy o macros bodies place (state new.sieve) [] 0 [] w → HasBy o (state new.sieve) w
     step w (Some t) h = h
     step w None h = subst (Has (state new.sieve)) h.is h.has
+
+pub between_step : (macros : List Macro) (bodies : List (List Token)) (holds : Bool) (uses : List Use) (i next : ℕ) (d : Use) (place : Place) (old mid new : Search) (all : List Token) (n : ℕ) → place ≡ use_place (get_or uses i d)
+    → i < length uses → next ≡ i + 1 → Between bodies holds old (all_tokens bodies (drop i uses)) all → frames_of old ≡ []
+    → n ≡ bounded (ahead 0 (extern_behind old.sieve.context.in_extern (use_tokens bodies (get_or uses i d))) (all_tokens bodies (drop next uses)))
+    → ((j : ℕ) (w : Skim) → ((state old.sieve).unsupported ≡ None → n ≡ bounded j) → Seeks macros bodies place holds old (frames_of old) j (all_at place (use_tokens bodies (get_or uses i d))) w
+        → Seeks macros bodies place holds mid (frames_of mid) 0 [] w)
+    → ((w : Skim) → Seeks macros bodies place holds mid (frames_of mid) 0 [] w → Seeks macros bodies place holds new (frames_of new) 0 [] w) → frames_of new ≡ []
+    → Between bodies holds new (all_tokens bodies (drop (i + 1) uses)) all
+between_step macros bodies holds uses i next d place old mid new all n at within is_next b begun closed pass finish ended =
+    let u = get_or uses i d in
+    let rest = all_tokens bodies (drop (i + 1) uses) in
+    let here = subst (λ ts. Between bodies holds old ts all) (next_tokens bodies uses i d within) b in
+    let j = closers bodies here.now u rest in
+    let w = run j here.now (use_tokens bodies u) in
+    let counted = subst (λ (k : ℕ). n ≡ bounded (ahead 0 (extern_behind old.sieve.context.in_extern (use_tokens bodies u)) (all_tokens bodies (drop k uses)))) is_next closed in
+    let known = closers_known bodies (state old.sieve) here.now u rest n here.by counted in
+    let there = subst (λ (p : Place). Seeks macros bodies p holds old (frames_of old) j (all_at p (use_tokens bodies u)) w) (sym at) (between_use macros bodies holds old u rest all here (frames_of old) begun) in
+    between_next macros bodies place holds old new u rest all here (frames_of new) ended (finish w (pass j w known there))
 
 -- behind the last use
 pub sifted : (bodies : List (List Token)) (holds : Bool) (s : Search) (all : List Token) → Between bodies holds s [] all → Sifts holds all (state s.sieve)

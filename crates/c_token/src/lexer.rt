@@ -112,9 +112,8 @@ fn read_tokens(alloc: Global, text: &[u8]) -> Result<Answer, OutOfMemory>
 /// The tokens of a text. The first of these that holds refuses it: it has more than 1048576 bytes; a byte outside comments
 /// begins no token; a word isn't supported; a macro has more than 1024 tokens; there are more than 65536 tokens.
 ///
-/// The time grows with the text and with the tokens that its macros give. A macro beyond its limit is mostly passed once,
-/// but token by token each time where an attribute's bracket stands open before it, or where it opens brackets among the
-/// parameters of `main`: there a text whose macros double again and again takes time that doubles with each of them.
+/// Time and memory grow with the text and with the limits, however many tokens its macros give. Where a macro opens or closes
+/// 2^64 brackets or more, and what is left hangs on how many, the answer is want of memory.
 pub fn tokens(alloc: Global, text: &[u8]) -> Result<Tokens, Refusal>
     ensures { Gives result (answer text.now) }
 {

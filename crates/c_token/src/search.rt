@@ -247,7 +247,8 @@ impl<'a> Search<'a> {
     fn finish(&mut self, macros: &[Macro<'a>], place: Place) -> Result<(), OutOfMemory>
         requires frames { FramesFit macros.now (frames_of self.old) }
         requires ordered { IsOrdered macros.now }
-        ensures { (bodies : List (List Token)) (holds : Bool) (w : Skim) → IsTable macros.now bodies → Seeks macros.now bodies place holds self.old (frames_of self.old) 0 [] w → OnOk result (Seeks macros.now bodies place holds self.new (frames_of self.new) 0 [] w × (frames_of self.new ≡ [])) }
+        ensures frames { OnOk result (frames_of self.new ≡ []) }
+        ensures seeks { (bodies : List (List Token)) (holds : Bool) (w : Skim) → IsTable macros.now bodies → Seeks macros.now bodies place holds self.old (frames_of self.old) 0 [] w → OnOk result (Seeks macros.now bodies place holds self.new (frames_of self.new) 0 [] w) }
     {
         while let Some(frame) = self.frames.pop() {
             self.go_on(macros, frame, place)?;

@@ -29,9 +29,9 @@ pub returns : goal.returns
 returns c =
     let nil : c.pop.new.self.items ≡ [] = c.in_default.ensures.rest ∙ ap (λ n. take (n - 1) c.loop-frame.self.frames.items) c.in_default.ensures.cases.0 in
     let same = c.in_default.ensures.items ∙ append-nil c.pop.new.self.items in
-    λ bodies holds w t s.
-    (
-      subst (λ (is : List Frame). Seeking c.args.macros.now bodies c.args.place holds (state c.loop-frame.self.sieve) (values c.loop-frame.self.passages) (reverse is) 0 [] w) same
-          (c.loop-frame.invariant.seeks bodies holds w t s),
-      ap reverse nil,
-    )
+    record {
+      frames = ap reverse nil;
+      seeks = λ bodies holds w t s.
+          subst (λ (is : List Frame). Seeking c.args.macros.now bodies c.args.place holds (state c.loop-frame.self.sieve) (values c.loop-frame.self.passages) (reverse is) 0 [] w) same
+          (c.loop-frame.invariant.seeks bodies holds w t s);
+    }
