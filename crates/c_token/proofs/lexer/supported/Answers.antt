@@ -10,13 +10,13 @@ pub returns-in-Some : goal.returns-in-Some
 returns-in-Some c = λ bodies all long s.
     supported_found c.args.end (token c.in-Some.word) _ c.in_ok-shown.shown _ _ (ap (option_map token) (sym c.in-Some.is) ∙ s.unsupported) c.in_ok-shown.ensures
 
-pub returns-in-Some-2 : goal.returns-in-Some-2
-returns-in-Some-2 c = λ bodies all long s.
-    supported_long c.args.end _ (first_long bodies) c.in-Some-2.count (kept all) (ap (option_map token) (sym c.in_default.is) ∙ s.unsupported) (sym c.in-Some-2.is ∙ long)
+pub returns-in-Some-long : goal.returns-in-Some-long
+returns-in-Some-long c = λ bodies all long s.
+    supported_long c.args.end _ (first_long bodies) c.in-Some-long.count (kept all) (ap (option_map token) (sym c.in_default.is) ∙ s.unsupported) (sym c.in-Some-long.is ∙ long)
 
 pub returns : goal.returns
 returns c = λ bodies all long s.
     let none = ap (option_map token) c.in_default.is in
     subst (λ x. IfOk c.limited.result (λ a. a ≡ x))
-    (supported_rest c.args.end _ (first_long bodies) (kept all) (sym none ∙ s.unsupported) (sym c.in_default-2.is ∙ long))
-    (c.limited.ensures (kept all) (s.words (ap is_none c.in_default-2.is) none) (s.count (ap is_none c.in_default-2.is) none))
+    (supported_rest c.args.end _ (first_long bodies) (kept all) (sym none ∙ s.unsupported) (sym c.in_default-long.is ∙ long))
+    (c.limited.ensures (kept all) (s.words (ap is_none c.in_default-long.is) none) (s.count (ap is_none c.in_default-long.is) none))

@@ -1,4 +1,4 @@
-use Rattle.std.proofs.Common.{◌≡◌, Bool, List, Option, map, length, IfOk, option_map, sym, ap, subst, ◌∙◌}
+use Rattle.std.proofs.Common.{◌≡◌, Bool, true, false, not, List, Option, map, length, IfOk, option_map, sym, ap, subst, ◌∙◌}
 use Rattle.token_list.specs.declared.Token.{Token}
 use Rattle.c_token.specs.declared.macros.Macro.{Macro}
 use Rattle.c_token.specs.Bytes.{capped}
@@ -10,6 +10,10 @@ use Rattle.c_token.specs.Tables.{IsTable, all_tokens}
 use Rattle.c_token.proofs.Answering.{read_is}
 use Rattle.c_token.proofs.Limits.{table_ordered}
 use Rattle.c_token.proofs.lexer.tokens_in.Goals as goal
+
+flipped : (s b : Bool) → s ≡ not b → b ≡ not s
+flipped s true e = ap not (sym e)
+flipped s false e = ap not (sym e)
 
 pub sift-requires-clause-ordered : goal.sift-requires-clause-ordered
 sift-requires-clause-ordered c = subst (λ (ms : List Macro). IsOrdered ms) (sym c.as_slice-macros.ensures) (table_ordered c.in_ok-reader.reader.macros _ c.in_ok-reader.ensures.table)
@@ -24,5 +28,5 @@ returns c =
     let words : all_tokens bodies c.as_slice.result.now ≡ r.words = ap (all_tokens bodies) c.as_slice.ensures ∙ reads.uses in
     let long = c.first_long-long.ensures bodies table in
     let sifts = subst (λ (ws : List Token). Sifts c.is_none.result ws s) words (c.in_ok-sieve.ensures bodies table) in
-    let there = subst (λ (b : Bool). Sifts b r.words s) c.is_none.ensures sifts in
+    let there = subst (λ (b : Bool). Sifts b r.words s) (flipped _ _ c.is_none.ensures) sifts in
     subst (λ x. IfOk c.supported.result (λ a. a ≡ x)) (read_is c.args.end r) (c.supported.ensures bodies r.words long there)
