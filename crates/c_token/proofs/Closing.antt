@@ -1,6 +1,6 @@
 -- Words that differ, and brackets in a list of tokens.
-use Rattle.std.proofs.Common.{◌≡◌, ℕ, ◌+◌, ◌-◌, Bool, true, false, cond, not, ◌&&◌, List, [], ◌∷◌, nat_eq, bytes_eq, Option, Some, None, is_some, codes, refl, sym, ap, ◌∙◌, arith}
-use Rattle.std.proofs.lemmas.Bool.{and_parts, both_ways, false_from_ne_true, eqb-true, eqb-false, ne_eqb}
+use Rattle.std.proofs.Common.{◌≡◌, ℕ, ◌+◌, ◌-◌, Bool, true, false, cond, not, List, [], ◌∷◌, nat_eq, bytes_eq, Option, Some, None, is_some, codes, refl, sym, ◌∙◌}
+use Rattle.std.proofs.lemmas.Bool.{and_parts, both_ways, false_from_ne_true}
 use Rattle.std.proofs.lemmas.Slice.Eq.{bytes_eq-Decides}
 use Rattle.token_list.specs.declared.Token.{Token}
 use Rattle.c_token.specs.Dropping.{is_text, says, closes, no_attribute, past_group}

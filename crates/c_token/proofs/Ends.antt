@@ -1,21 +1,19 @@
 -- The effects of tokens of uses, from the last one on.
-use Rattle.std.proofs.Common.{◌≡◌, ℕ, zero, suc, ◌+◌, ◌-◌, ◌<◌, ◌≤◌, Bool, true, false, List, [], ◌∷◌, ◌++◌, length, drop, get_or, slice_get, Option, Some, None, refl, sym, ap, subst, ◌∙◌, arith, length-append, add-one, drop-cons, ⊎_elim}
+use Rattle.std.proofs.Common.{◌≡◌, ℕ, zero, suc, ◌+◌, ◌-◌, ◌<◌, ◌≤◌, Bool, true, false, List, [], ◌∷◌, ◌++◌, length, drop, get_or, slice_get, Some, None, refl, sym, ap, subst, ◌∙◌, arith, add-one, drop-cons, ⊎_elim}
 use Rattle.std.proofs.lemmas.Bool.{cases_lt}
 use Rattle.std.specs.Option.{option_or}
 use Rattle.dg_base.specs.declared.Place.{Place}
 use Rattle.token_list.specs.declared.Token.{Token}
 use Rattle.c_token.specs.declared.macros.Macro.{Macro}
 use Rattle.c_token.specs.declared.macros.Use.{Use}
-use Rattle.c_token.specs.declared.macros.Use.TheVariants.{Plain, Macro as MacroUse}
+use Rattle.c_token.specs.declared.macros.Use.TheVariants.{Macro as MacroUse}
 use Rattle.c_token.specs.declared.skim.Class.{Class}
 use Rattle.c_token.specs.declared.skim.Class.TheVariants.{Open, Close}
 use Rattle.c_token.specs.declared.skim.Effect.{Effect}
 use Rattle.c_token.specs.declared.skim.Effects.{Effects}
-use Rattle.c_token.specs.declared.skim.Last.{Last}
-use Rattle.c_token.specs.Macros.{put_at, all_at}
+use Rattle.c_token.specs.Macros.{all_at}
 use Rattle.c_token.specs.Searching.{uses_in, uses_of}
-use Rattle.c_token.specs.Seen.{token}
-use Rattle.c_token.specs.Skimming.{class_of, extern_after, extern_behind, last_after, last_of, bracket, ahead, open_more, opened, bounded, effect, effects, effect_in, Joins}
+use Rattle.c_token.specs.Skimming.{class_of, extern_after, extern_behind, last_after, last_of, bracket, open_more, bounded, effect, effects, effect_in, Joins}
 use Rattle.c_token.specs.Tables.{use_tokens, all_tokens, AreEnds, IsMacro, IsTable}
 use Rattle.c_token.proofs.Effects.{effect_append, same_effect}
 use Rattle.c_token.proofs.Running.{class_at, extern_at, ahead_at, opened_at}

@@ -1,17 +1,16 @@
 -- What the sieve holds of the tokens that the pass keeps.
-use Rattle.std.proofs.Common.{◌≡◌, ℕ, ◌+◌, ◌<◌, ◌≤◌, Bool, true, false, cond, not, ◌&&◌, List, [], ◌∷◌, ◌++◌, length, take, nat_lt, Option, Some, None, find, refl, sym, ap, subst, ◌∙◌, arith, length-append, append-nil, ⊎_elim}
-use Rattle.std.proofs.lemmas.Bool.{cases_lt, cond_both, ltb-true, ltb-false}
+use Rattle.std.proofs.Common.{◌≡◌, ℕ, ◌+◌, Bool, true, false, cond, not, List, [], ◌∷◌, ◌++◌, length, take, nat_lt, Option, Some, None, find, refl, sym, ap, subst, ◌∙◌, arith, length-append}
+use Rattle.std.proofs.lemmas.Bool.{cond_both, ltb-true, ltb-false}
 use Rattle.std.proofs.lemmas.List.{take-append-le, take_all}
 use Rattle.std.proofs.lemmas.List.Folds.{find-append}
 use Rattle.std.specs.Option.{option_or}
 use Rattle.token_list.specs.declared.Token.{Token}
 use Rattle.c_token.specs.declared.sieve.TheConstants.{MAX_TOKENS}
 use Rattle.c_token.specs.declared.skim.Context.{Context}
-use Rattle.c_token.specs.declared.skim.Judgement.{Judgement}
 use Rattle.c_token.specs.declared.skim.Region.{Region}
 use Rattle.c_token.specs.Dropping.{is_dropped}
 use Rattle.c_token.specs.Sieving.{State, with_word, hold, keep_found, keep_if, feed, Has}
-use Rattle.c_token.specs.Skimming.{Skim, class_of, context_after, judged, put_last, goes_to, fed}
+use Rattle.c_token.specs.Skimming.{Skim, class_of, context_after, judged, put_last, fed}
 use Rattle.c_token.specs.Tokens.{is_unsupported}
 
 -- one more token, where there is room for it

@@ -1,5 +1,5 @@
 -- The frames of a search: each step keeps them in order, and brings the end nearer.
-use Rattle.std.proofs.Common.{◌≡◌, ℕ, zero, suc, ◌+◌, ◌-◌, ◌*◌, ◌^◌, ◌<◌, ◌≤◌, Bool, true, false, IsTrue, List, [], ◌∷◌, ◌++◌, length, reverse, slice_get, Option, Some, None, refl, sym, ap, subst, ◌∙◌, arith, ⊎_elim}
+use Rattle.std.proofs.Common.{◌≡◌, ℕ, zero, suc, ◌+◌, ◌-◌, ◌*◌, ◌^◌, ◌<◌, ◌≤◌, IsTrue, List, [], ◌∷◌, ◌++◌, length, reverse, slice_get, Option, Some, None, refl, sym, ap, subst, ◌∙◌, arith, ⊎_elim}
 use Rattle.std.proofs.lemmas.Bool.{and_parts, ltb-true}
 use Rattle.std.proofs.lemmas.List.{reverse-append}
 use Rattle.std.proofs.Math.Nat.{one-le-pow, pow-le-pow_right, pow-succ', mul-lt-mul_of_pos_right, mul-le-mul}
@@ -8,7 +8,7 @@ use Rattle.c_token.specs.declared.macros.Macro.{Macro}
 use Rattle.c_token.specs.declared.macros.Use.{Use}
 use Rattle.c_token.specs.declared.macros.Use.TheVariants.{Plain, Macro as MacroUse}
 use Rattle.c_token.specs.declared.search.Frame.{Frame}
-use Rattle.c_token.specs.Searching.{uses_in, uses_of, next_use, next_frame, Grows, GrowsBy, GoesOn, FramesFit, IsFrame, IsOrdered}
+use Rattle.c_token.specs.Searching.{uses_in, uses_of, next_use, next_frame, GrowsBy, GoesOn, FramesFit, IsFrame, IsOrdered}
 use Rattle.c_token.specs.Tables.{is_below, AllBelow}
 use Rattle.c_token.proofs.Defining.{below_use}
 

@@ -1,10 +1,9 @@
 -- The pass keeps what is left by the definition.
-use Rattle.std.proofs.Common.{◌≡◌, ℕ, zero, suc, ◌+◌, ◌-◌, ◌<◌, ◌≤◌, Bool, true, false, cond, not, ◌&&◌, nat_eq, nat_lt, List, [], ◌∷◌, ◌++◌, Option, Some, None, is_some, option_map, codes, refl, sym, ap, ◌∙◌, arith, append_assoc, append-nil, ⊎_elim}
-use Rattle.std.proofs.lemmas.Bool.{ltb-true, ltb-false, lt-ltb, le-ltb, ne_eqb, eqb-true, eqb-false, cases_lt, both_ways}
+use Rattle.std.proofs.Common.{◌≡◌, ℕ, ◌+◌, ◌-◌, ◌<◌, ◌≤◌, Bool, true, false, cond, not, ◌&&◌, nat_eq, nat_lt, List, [], ◌∷◌, ◌++◌, Option, Some, None, is_some, option_map, codes, refl, sym, ap, ◌∙◌, arith, append_assoc, append-nil, ⊎_elim}
+use Rattle.std.proofs.lemmas.Bool.{lt-ltb, le-ltb, ne_eqb, eqb-true, eqb-false, cases_lt}
 use Rattle.token_list.specs.declared.Token.{Token}
 use Rattle.c_token.specs.declared.skim.Class.{Class}
 use Rattle.c_token.specs.declared.skim.Class.TheVariants.{Extern, Semicolon, Main, Attribute, Open, Close, Plain}
-use Rattle.c_token.specs.declared.skim.Context.{Context}
 use Rattle.c_token.specs.declared.skim.Judgement.{Judgement}
 use Rattle.c_token.specs.declared.skim.Kind.{Kind}
 use Rattle.c_token.specs.declared.skim.Kind.TheVariants.{Parameters, Group}

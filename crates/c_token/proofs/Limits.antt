@@ -1,5 +1,5 @@
 -- The limits on macros, and what a table of macros says.
-use Rattle.std.proofs.Common.{◌≡◌, ℕ, zero, suc, ◌+◌, ◌<◌, ◌≤◌, Bool, true, false, cond, List, [], ◌∷◌, length, drop, get_or, nat_lt, slice_get, Option, Some, None, option_map, refl, sym, ap, ◌∙◌, arith, add-one, drop-cons}
+use Rattle.std.proofs.Common.{◌≡◌, ℕ, ◌+◌, ◌<◌, ◌≤◌, cond, List, [], length, drop, get_or, nat_lt, slice_get, Option, Some, None, option_map, refl, sym, ap, ◌∙◌, arith, add-one, drop-cons}
 use Rattle.std.proofs.lemmas.Bool.{lt-ltb, le-ltb}
 use Rattle.token_list.specs.declared.Token.{Token}
 use Rattle.c_token.specs.declared.macros.Macro.{Macro}

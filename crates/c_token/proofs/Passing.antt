@@ -1,11 +1,10 @@
 -- Each step of a search leads to what comes of all tokens.
-use Rattle.std.proofs.Common.{◌≡◌, ℕ, zero, suc, ◌+◌, ◌-◌, ◌<◌, ◌≤◌, Bool, true, false, cond, not, ◌||◌, IsTrue, List, [], ◌∷◌, ◌++◌, map, length, take, drop, get_or, nat_lt, nat_le, slice_get, find, min, unwrap_or, Option, Some, None, is_some, option_map, refl, sym, ap, subst, ◌∙◌, arith, append_assoc, append-nil, length-append, ⊎_elim, ◌⊎◌, Result, Ok, Err, OnOk, MatchOption}
-use Rattle.std.proofs.lemmas.Bool.{cases_lt, lt-ltb, le-ltb, le-leb, leb-true}
+use Rattle.std.proofs.Common.{◌≡◌, ℕ, zero, suc, ◌+◌, ◌-◌, ◌<◌, ◌≤◌, Bool, true, false, cond, not, ◌||◌, List, [], ◌∷◌, ◌++◌, length, take, drop, get_or, nat_lt, nat_le, slice_get, find, min, unwrap_or, Option, Some, None, is_some, option_map, refl, sym, ap, subst, ◌∙◌, arith, append-nil, length-append, ⊎_elim, ◌⊎◌, Result, Ok, Err, OnOk, MatchOption}
+use Rattle.std.proofs.lemmas.Bool.{cases_lt, lt-ltb, le-ltb, leb-true}
 use Rattle.std.proofs.lemmas.List.{map-append, length-map, take-append-le}
 use Rattle.std.proofs.lemmas.List.Elements.{All-cons, All-same}
 use Rattle.std.proofs.lemmas.List.Folds.{find-append}
 use Rattle.std.proofs.lemmas.Map.Views.{All-map-IsPermutation, All-values-set_value}
-use Rattle.std.specs.HashMap.{values}
 use Rattle.std.specs.List.{All, IsAmong}
 use Rattle.std.specs.List.Sorted.{IsPermutation}
 use Rattle.std.specs.Map.{set_value, values_of}
@@ -14,7 +13,7 @@ use Rattle.dg_base.specs.declared.Place.{Place}
 use Rattle.token_list.specs.declared.Token.{Token}
 use Rattle.c_token.specs.declared.macros.Macro.{Macro}
 use Rattle.c_token.specs.declared.macros.Use.{Use}
-use Rattle.c_token.specs.declared.macros.Use.TheVariants.{Plain, Macro as MacroUse}
+use Rattle.c_token.specs.declared.macros.Use.TheVariants.{Macro as MacroUse}
 use Rattle.c_token.specs.declared.search.Entry.{Entry}
 use Rattle.c_token.specs.declared.search.Frame.{Frame}
 use Rattle.c_token.specs.declared.search.Passage.{Passage}
@@ -25,11 +24,10 @@ use Rattle.c_token.specs.declared.skim.Kind.{Kind}
 use Rattle.c_token.specs.declared.skim.Region.{Region}
 use Rattle.c_token.specs.declared.skim.Region.TheVariants.{Dead}
 use Rattle.c_token.specs.Macros.{put_at, all_at}
-use Rattle.c_token.specs.Searching.{uses_in, uses_of, next_use, next_frame, body_at, rest_of, before, passed, IsPassage, left_passage, repeated, IsBegun, AreBegun, resumed, Leads, LeadsBy, Seeking}
-use Rattle.c_token.specs.Seen.{token}
+use Rattle.c_token.specs.Searching.{uses_in, uses_of, next_use, next_frame, body_at, rest_of, before, passed, IsPassage, left_passage, repeated, AreBegun, resumed, Leads, LeadsBy, Seeking}
 use Rattle.c_token.specs.Sieving.{State, Has, feed, is_full}
-use Rattle.c_token.specs.Skimming.{Skim, class_of, extern_after, extern_behind, context_behind, ahead, opened, bounded, fed, run, effect}
-use Rattle.c_token.specs.Tables.{use_tokens, all_tokens, IsMacro, IsTable}
+use Rattle.c_token.specs.Skimming.{Skim, extern_behind, context_behind, ahead, opened, bounded, fed, run, effect}
+use Rattle.c_token.specs.Tables.{use_tokens, all_tokens, IsTable}
 use Rattle.c_token.specs.Tokens.{is_unsupported, is_unsupported_name}
 use Rattle.c_token.proofs.Effects.{context_is}
 use Rattle.c_token.proofs.Ends.{macro_here, next_tokens, got_in}
@@ -206,8 +204,7 @@ entered macros bodies place s fs j n w e l i =
     let opens : opened l.now.context.in_extern (body_at place bodies n) ≡ opened s.context.in_extern (get_or bodies n []) =
     ap (λ (m : Context). opened m.in_extern (body_at place bodies n)) (sym l.has.context) ∙ opened_at place s.context.in_extern (get_or bodies n []) in
     let behind = i.3 in
-    let alike : min j (opened l.now.context.in_extern (body_at place bodies n)) ≡ min e.behind (opened l.now.context.in_extern (body_at place bodies n)) = omega arith in
-    (
+    let alike : min j (opened l.now.context.in_extern (body_at place bodies n)) ≡ min e.behind (opened l.now.context.in_extern (body_at place bodies n)) = omega arith in (
       run_alike j e.behind l.now (body_at place bodies n) alike ∙ ap (λ x. run e.behind l.now (body_at place bodies x)) (sym i.0),
       ap (λ m. record { context = m; region = l.now.region; kept = l.now.kept }) (sym (i.1 ∙ l.has.context)) ∙ ap (λ r. record { context = e.context; region = r; kept = l.now.kept }) (sym (i.2 ∙ l.has.region)),
     )
@@ -271,8 +268,7 @@ pub leads_left : (macros : List Macro) (bodies : List (List Token)) (place : Pla
     → s.holds ≡ holds → next_use macros f ≡ None → Leads macros bodies place s fs 0 [] w × IsPassage bodies holds (left_passage s f)
 leads_left macros bodies place holds s fs w f l same end =
     let nothing : rest_of macros bodies place f ≡ [] = ap (λ us. all_at place (all_tokens bodies us)) (got_none (uses_of macros f.entry.number) f.next end) in
-    let stays : run f.entry.behind l.now (rest_of macros bodies place f) ≡ l.now = ap (run f.entry.behind l.now) nothing in
-    (
+    let stays : run f.entry.behind l.now (rest_of macros bodies place f) ≡ l.now = ap (run f.entry.behind l.now) nothing in (
       record { now = l.now; has = l.has; begun = subst (AreBegun macros bodies place s.holds fs) stays l.begun.1; is = ap (resumed macros bodies place fs) (sym stays) ∙ l.is },
       passage_left bodies place holds f s l.now l.begun.0.out l.has same (λ h. l.begun.0.count (same ∙ h)) (sym stays ∙ l.begun.0.is),
     )
@@ -397,8 +393,7 @@ pub is_entry : (s : State) (bodies : List (List Token)) (n j b least m : ℕ) (e
 is_entry s bodies n j b least m e entry is from lowest exact same =
     let o = opened s.context.in_extern (get_or bodies n []) in
     let openers : e.openers ≡ bounded o = ap (λ (x : Effect). x.openers) is in
-    let behind : m ≡ min j o = exact (min j o) (omega arith) in
-    (
+    let behind : m ≡ min j o = exact (min j o) (omega arith) in (
       ap (λ (x : Entry). x.number) same,
       ap (λ (x : Entry). x.context) same,
       ap (λ (x : Entry). x.region) same,

@@ -1,5 +1,5 @@
 -- A search between two uses, and what it has found in the end.
-use Rattle.std.proofs.Common.{◌≡◌, ℕ, ◌+◌, ◌<◌, Bool, true, List, [], ◌∷◌, ◌++◌, length, take, drop, get_or, find, Option, Some, None, refl, sym, ap, subst, ◌∙◌}
+use Rattle.std.proofs.Common.{◌≡◌, ℕ, ◌+◌, ◌<◌, Bool, List, [], ◌++◌, length, take, drop, get_or, find, Option, Some, None, refl, sym, ap, subst, ◌∙◌}
 use Rattle.std.proofs.lemmas.List.Elements.{All-nil}
 use Rattle.std.specs.HashMap.{values}
 use Rattle.std.specs.List.{All}
@@ -9,13 +9,12 @@ use Rattle.c_token.specs.declared.macros.Macro.{Macro}
 use Rattle.c_token.specs.declared.macros.Use.{Use}
 use Rattle.c_token.specs.declared.macros.Use.TheVariants.{Plain, Macro as MacroUse}
 use Rattle.c_token.specs.declared.search.Frame.{Frame}
-use Rattle.c_token.specs.declared.search.Passage.{Passage}
 use Rattle.c_token.specs.declared.search.Search.{Search}
 use Rattle.c_token.specs.declared.sieve.TheConstants.{MAX_TOKENS}
 use Rattle.c_token.specs.declared.skim.Context.{Context}
 use Rattle.c_token.specs.Dropping.{kept}
 use Rattle.c_token.specs.Macros.{all_at}
-use Rattle.c_token.specs.Searching.{use_place, frames_of, IsPassage, Leads, LeadsBy, Seeks, Sifts}
+use Rattle.c_token.specs.Searching.{use_place, frames_of, IsPassage, LeadsBy, Seeks, Sifts}
 use Rattle.c_token.specs.Sieving.{State, state, Has}
 use Rattle.c_token.specs.Sieving as sieving
 use Rattle.c_token.specs.Skimming.{Skim, extern_behind, ahead, bounded, run, beginning}
@@ -94,7 +93,7 @@ pub between_step : (macros : List Macro) (bodies : List (List Token)) (holds : B
     → i < length uses → next ≡ i + 1 → Between bodies holds old (all_tokens bodies (drop i uses)) all → frames_of old ≡ []
     → n ≡ bounded (ahead 0 (extern_behind old.sieve.context.in_extern (use_tokens bodies (get_or uses i d))) (all_tokens bodies (drop next uses)))
     → ((j : ℕ) (w : Skim) → ((state old.sieve).unsupported ≡ None → n ≡ bounded j) → Seeks macros bodies place holds old (frames_of old) j (all_at place (use_tokens bodies (get_or uses i d))) w
-        → Seeks macros bodies place holds mid (frames_of mid) 0 [] w)
+    → Seeks macros bodies place holds mid (frames_of mid) 0 [] w)
     → ((w : Skim) → Seeks macros bodies place holds mid (frames_of mid) 0 [] w → Seeks macros bodies place holds new (frames_of new) 0 [] w) → frames_of new ≡ []
     → Between bodies holds new (all_tokens bodies (drop (i + 1) uses)) all
 between_step macros bodies holds uses i next d place old mid new all n at within is_next b begun closed pass finish ended =

@@ -1,6 +1,6 @@
 -- One pass over the tokens of uses of macros, where a macro isn't passed twice in the same region. No public contract cites
 -- these: the proofs tie them to what is left.
-use Rattle.std.specs.Prelude.{◌≡◌, ◌⊎◌, ℕ, ◌+◌, ◌-◌, ◌<◌, ◌≤◌, Bool, true, if◌then◌else◌, List, [], ◌∷◌, ◌++◌, map, reverse, length, drop, take, find, slice_get, slice_index_or, Option, Some, None}
+use Rattle.std.specs.Prelude.{◌≡◌, ◌⊎◌, ℕ, ◌+◌, ◌-◌, ◌≤◌, Bool, true, if◌then◌else◌, List, [], ◌∷◌, reverse, length, drop, take, find, slice_get, slice_index_or, Option, Some, None}
 use Rattle.std.specs.HashMap.{values}
 use Rattle.std.specs.List.{All}
 use Rattle.dg_base.specs.declared.Place.{Place}

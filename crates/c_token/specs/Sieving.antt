@@ -1,5 +1,5 @@
 -- What the sieve holds of the tokens that are left. No public contract cites these: the proofs tie them to what is left.
-use Rattle.std.specs.Prelude.{◌≡◌, ℕ, ◌+◌, ◌≤◌, Bool, true, false, not, ◌||◌, nat_lt, nat_le, if◌then◌else◌, List, [], ◌∷◌, ◌++◌, map, length, take, find, Option, Some, None, option_map}
+use Rattle.std.specs.Prelude.{◌≡◌, ℕ, ◌+◌, Bool, true, not, ◌||◌, nat_lt, nat_le, if◌then◌else◌, List, [], ◌∷◌, ◌++◌, map, length, take, find, Option, Some, None, option_map}
 use Rattle.token_list.specs.declared.Token.{Token}
 use Rattle.c_token.specs.declared.sieve.Sieve.{Sieve}
 use Rattle.c_token.specs.declared.sieve.TheConstants.{MAX_TOKENS}

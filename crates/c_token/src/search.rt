@@ -151,7 +151,12 @@ impl<'a> Search<'a> {
     }
 
     /// Passes a macro's tokens at once, or begins to pass them.
-    fn enter(&mut self, macros: &[Macro<'a>], number: usize, behind: usize) -> Result<(), OutOfMemory>
+    fn enter(
+        &mut self,
+        macros: &[Macro<'a>],
+        number: usize,
+        behind: usize,
+    ) -> Result<(), OutOfMemory>
         requires { number < length macros.now }
         ensures frames { OnOk result (Grows number (frames_of self.old) (frames_of self.new)) }
         ensures seeks { (bodies : List (List Token)) (place : Place) (holds : Bool) (j : ℕ) (w : Skim) → IsTable macros.now bodies → behind ≡ bounded j → (state self.old.sieve).unsupported ≡ None → Seeks macros.now bodies place holds self.old (frames_of self.old) j (body_at place bodies number) w → OnOk result (Seeks macros.now bodies place holds self.new (frames_of self.new) 0 [] w) }

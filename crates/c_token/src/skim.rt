@@ -85,7 +85,11 @@ pub fn exact(n: usize) -> Result<usize, OutOfMemory>
     ensures same { IfOk result (λ m. m ≡ n) }
     ensures exact { IfOk result (λ m. (x : ℕ) → n ≡ bounded x → m ≡ x) }
 {
-    if n == usize::MAX { Err(OutOfMemory) } else { Ok(n) }
+    if n == usize::MAX {
+        Err(OutOfMemory)
+    } else {
+        Ok(n)
+    }
 }
 
 /// The smaller of two numbers.

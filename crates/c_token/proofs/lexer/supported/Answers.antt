@@ -1,5 +1,4 @@
-use Rattle.std.proofs.Common.{◌≡◌, Option, IfOk, option_map, not, is_some, is_none, sym, ap, subst, ◌∙◌}
-use Rattle.c_token.specs.declared.words.Word.{Word}
+use Rattle.std.proofs.Common.{◌≡◌, IfOk, option_map, is_none, sym, ap, subst, ◌∙◌}
 use Rattle.c_token.specs.Dropping.{kept}
 use Rattle.c_token.specs.Seen.{token}
 use Rattle.c_token.specs.Tokens.{first_long}

@@ -1,7 +1,6 @@
-use Rattle.std.proofs.Common.{◌≡◌, Bool, true, false, not, List, Option, map, length, IfOk, option_map, sym, ap, subst, ◌∙◌}
+use Rattle.std.proofs.Common.{◌≡◌, Bool, true, false, not, List, map, IfOk, sym, ap, subst, ◌∙◌}
 use Rattle.token_list.specs.declared.Token.{Token}
 use Rattle.c_token.specs.declared.macros.Macro.{Macro}
-use Rattle.c_token.specs.Bytes.{capped}
 use Rattle.c_token.specs.Macros.{bodies_of, nothing_read, read}
 use Rattle.c_token.specs.Searching.{IsOrdered, Sifts}
 use Rattle.c_token.specs.Seen.{segment}

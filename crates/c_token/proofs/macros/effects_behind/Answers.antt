@@ -1,4 +1,4 @@
-use Rattle.std.proofs.Common.{◌≡◌, length, ◌-◌, slice_get, Some, None, sym, ap, ◌∙◌}
+use Rattle.std.proofs.Common.{◌≡◌, length, ◌-◌, slice_get, sym, ap, ◌∙◌}
 use Rattle.c_token.proofs.Ends.{ends_some, ends_none, got_or, got_past}
 use Rattle.c_token.proofs.macros.effects_behind.Goals as goal
 

@@ -1,4 +1,4 @@
-use Rattle.std.proofs.Common.{◌≡◌, ◌<◌, ◌≤◌, ◌+◌, ◌-◌, List, [], ◌∷◌, length, length-append, sym, ap, subst, arith}
+use Rattle.std.proofs.Common.{◌≡◌, ◌<◌, ◌+◌, ◌-◌, List, [], ◌∷◌, length, length-append, sym, ap, subst, arith}
 use Rattle.c_token.specs.declared.skim.Effects.{Effects}
 use Rattle.c_token.proofs.Ends.{EndsFrom, ends_more, ends_step}
 use Rattle.c_token.proofs.macros.ends_of.Goals as goal

@@ -1,4 +1,4 @@
-use Rattle.std.proofs.Common.{◌≡◌, ℕ, ◌+◌, ◌-◌, ◌≤◌, List, length, drop}
+use Rattle.std.proofs.Common.{◌≡◌, ◌+◌, ◌-◌, ◌≤◌, List, length, drop}
 use Rattle.token_list.specs.declared.Token.{Token}
 use Rattle.c_token.specs.Skimming.{effects}
 use Rattle.c_token.specs.Tables.{all_tokens, IsTable}

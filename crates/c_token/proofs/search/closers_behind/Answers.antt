@@ -1,6 +1,6 @@
 use Rattle.std.proofs.Common.{◌≡◌, ℕ, IfOk, sym, ap, subst}
 use Rattle.c_token.specs.declared.skim.Effect.{Effect}
-use Rattle.c_token.specs.Skimming.{bounded, extern_behind, ahead, opened, effect}
+use Rattle.c_token.specs.Skimming.{bounded, extern_behind, ahead, opened}
 use Rattle.c_token.specs.Tables.{use_tokens}
 use Rattle.c_token.proofs.Effects.{ahead_is}
 use Rattle.c_token.proofs.Ends.{closers_are}

@@ -1,4 +1,4 @@
-use Rattle.std.proofs.Common.{◌≡◌, ◌≤◌, List, length, drop, reverse, refl, sym, ap, subst, arith}
+use Rattle.std.proofs.Common.{◌≤◌, List, length, drop, reverse, refl, sym, ap, subst, arith}
 use Rattle.std.proofs.lemmas.List.{drop_all}
 use Rattle.std.specs.Map.{values_of}
 use Rattle.c_token.specs.declared.macros.Use.{Use}

@@ -1,13 +1,12 @@
-use Rattle.std.proofs.Common.{◌≡◌, ℕ, Option, IfSome, List, [], get_or, refl, sym, ap, subst, ◌∙◌}
+use Rattle.std.proofs.Common.{◌≡◌, Option, IfSome, List, [], get_or, refl, sym, ap, subst, ◌∙◌}
 use Rattle.std.specs.HashMap.{values}
 use Rattle.c_token.specs.declared.search.Entry.{Entry}
 use Rattle.c_token.specs.declared.search.Frame.{Frame}
 use Rattle.c_token.specs.declared.search.Passage.{Passage}
 use Rattle.c_token.specs.declared.skim.Context.{Context}
-use Rattle.c_token.specs.declared.skim.Effect.{Effect}
 use Rattle.c_token.specs.declared.skim.Region.{Region}
-use Rattle.c_token.specs.Searching.{frames_of, Seeking, repeated}
-use Rattle.c_token.specs.Sieving.{State, state}
+use Rattle.c_token.specs.Searching.{frames_of, Seeking}
+use Rattle.c_token.specs.Sieving.{state}
 use Rattle.c_token.specs.Skimming.{effect, effect_in}
 use Rattle.c_token.proofs.Ends.{effects_used, effect_in_is}
 use Rattle.c_token.proofs.Hunting.{reverse_last}

@@ -1,7 +1,6 @@
-use Rattle.std.proofs.Common.{◌≡◌, ◌≤◌, ℕ, ◌+◌, List, [], ◌∷◌, ◌++◌, Some, None, length, drop, sym, ap, subst, ◌∙◌, arith}
+use Rattle.std.proofs.Common.{◌≡◌, ◌≤◌, ℕ, List, [], ◌∷◌, ◌++◌, Some, length, drop, sym, ap, subst, ◌∙◌, arith}
 use Rattle.std.specs.HashMap.{values}
 use Rattle.c_token.specs.declared.search.Frame.{Frame}
-use Rattle.c_token.specs.declared.search.Passage.{Passage}
 use Rattle.c_token.specs.Macros.{all_at}
 use Rattle.c_token.specs.Searching.{frames_of, uses_of, next_use, next_frame, Seeking}
 use Rattle.c_token.specs.Seen.{token}

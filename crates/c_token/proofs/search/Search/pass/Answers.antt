@@ -1,5 +1,4 @@
-use Rattle.std.proofs.Common.{◌≡◌, List, [], option_map, sym, ap, subst, ◌∙◌, nat_lt, ◌<◌, IsTrue, length}
-use Rattle.std.proofs.lemmas.Bool.{ltb-true}
+use Rattle.std.proofs.Common.{List, sym, ap, subst, ◌∙◌, nat_lt}
 use Rattle.std.specs.HashMap.{values}
 use Rattle.token_list.specs.declared.Token.{Token}
 use Rattle.c_token.specs.declared.macros.Use.{Use}
