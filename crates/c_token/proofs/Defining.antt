@@ -1,5 +1,5 @@
 -- Macros by number: what a name's number says, and one more macro.
-use Rattle.std.proofs.Common.{◌≡◌, ℕ, suc, ◌+◌, ◌<◌, ◌≤◌, Bool, true, false, cond, ◌&&◌, IsTrue, List, [], ◌∷◌, ◌++◌, length, get_or, bytes_eq, Option, Some, None, is_some, Bor, refl, sym, ap, subst, ◌∙◌, arith, append-nil, length-append, ⊎_elim}
+use Rattle.std.proofs.Common.{◌≡◌, ℕ, zero, suc, ◌+◌, ◌-◌, ◌<◌, ◌≤◌, Bool, true, false, cond, ◌&&◌, IsTrue, List, [], ◌∷◌, ◌++◌, length, drop, get_or, bytes_eq, Option, Some, None, is_some, Bor, refl, sym, ap, subst, ◌∙◌, arith, append-nil, length-append, ⊎_elim}
 use Rattle.std.proofs.lemmas.Bool.{lt-ltb, ltb-true, and_parts, and_from, cases_lt}
 use Rattle.std.proofs.lemmas.List.{get_or_append_left}
 use Rattle.std.proofs.lemmas.List.Folds.{list_all-append}
@@ -9,13 +9,13 @@ use Rattle.std.specs.HashMap.{get}
 use Rattle.std.specs.List.{list_all}
 use Rattle.token_list.specs.declared.Token.{Token}
 use Rattle.c_token.specs.declared.macros.Macro.{Macro}
-use Rattle.c_token.specs.declared.macros.Macro.TheVariants.{Short, Long}
 use Rattle.c_token.specs.declared.macros.Reader.{Reader}
 use Rattle.c_token.specs.declared.macros.Use.{Use}
 use Rattle.c_token.specs.declared.macros.Use.TheVariants.{Plain, Macro as MacroUse}
 use Rattle.c_token.specs.declared.words.Word.{Word}
 use Rattle.c_token.specs.Macros.{Definition, Reading, bodies_of, macro_of, all_at, is_name, replaced, replaced_by, add, add_words, define}
 use Rattle.c_token.specs.Seen.{token}
+use Rattle.c_token.specs.Skimming.{effects}
 use Rattle.c_token.specs.Tables.{use_tokens, all_tokens, is_below, AllBelow, IsMacro, IsTable, IsPending, Reads, number_of, same_name}
 
 pub length_bodies : (ms : List Definition) → length (bodies_of ms) ≡ length ms
@@ -74,9 +74,20 @@ all_tokens_more bodies body n (u ∷ us) h b =
     let rest = all_tokens_more bodies body n us h parts.1 in
     ap (λ ts. ts ++ all_tokens (bodies ++ body ∷ []) us) first ∙ ap (λ ts. use_tokens bodies u ++ ts) rest
 
+below_drop : (n k : ℕ) (us : List Use) → AllBelow n us → AllBelow n (drop k us)
+below_drop n zero us b = b
+below_drop n (suc k) [] b = b
+below_drop n (suc k) (u ∷ us) b = below_drop n k us (and_parts (is_below n u) (list_all (is_below n) us) b).1
+
 is_macro_more : (bodies : List (List Token)) (last : List Token) (n : ℕ) (m : Macro) (body : List Token) → n ≤ length bodies → IsMacro bodies n m body → IsMacro (bodies ++ last ∷ []) n m body
-is_macro_more bodies last n (Short words) body h i = i
-is_macro_more bodies last n (Long count uses) body h i = (all_tokens_more bodies last n uses h i.3 ∙ i.0, i.1, i.2, i.3)
+is_macro_more bodies last n m body h i = record {
+  tokens = all_tokens_more bodies last n m.uses h i.below ∙ i.tokens;
+  count = i.count;
+  below = i.below;
+  ends = λ j k.
+      i.ends j k
+      ∙ ap (λ ts. Some (effects ts)) (sym (all_tokens_more bodies last n (drop (length m.uses - j) m.uses) h (below_drop n (length m.uses - j) m.uses i.below)));
+}
 
 -- one more macro
 pub table_more : (macros : List Macro) (bodies : List (List Token)) (m : Macro) (body : List Token) → IsTable macros bodies → IsMacro bodies (length macros) m body

@@ -1,173 +1,261 @@
--- Each step of a search keeps what it says of the first token that isn't supported.
-use Rattle.std.proofs.Common.{◌≡◌, ◌⊎◌, ℕ, zero, suc, ◌+◌, ◌<◌, Bool, true, false, List, [], ◌∷◌, ◌++◌, length, map, drop, get_or, set, slice_get, Option, Some, None, refl, sym, ap, subst, ◌∙◌, arith, append_assoc, inl, inr, ⊎_elim}
-use Rattle.std.proofs.lemmas.List.{map-append}
+-- Each step of a search leads to what comes of all tokens.
+use Rattle.std.proofs.Common.{◌≡◌, ℕ, zero, suc, ◌+◌, ◌-◌, ◌<◌, ◌≤◌, Bool, true, false, cond, not, ◌||◌, List, [], ◌∷◌, ◌++◌, length, take, drop, get_or, nat_lt, nat_le, slice_get, find, min, unwrap_or, Option, Some, None, is_some, option_map, refl, sym, ap, subst, ◌∙◌, arith, append-nil, length-append, ⊎_elim, ◌⊎◌, Result, Ok, Err, OnOk, MatchOption}
+use Rattle.std.proofs.lemmas.Bool.{cases_lt, lt-ltb, le-ltb, leb-true}
+use Rattle.std.proofs.lemmas.List.{map-append, length-map, take-append-le}
+use Rattle.std.proofs.lemmas.List.Elements.{All-cons, All-same}
+use Rattle.std.proofs.lemmas.List.Folds.{find-append}
+use Rattle.std.proofs.lemmas.Map.Views.{All-map-IsPermutation, All-values-set_value}
+use Rattle.std.specs.List.{All, IsAmong}
+use Rattle.std.specs.List.Sorted.{IsPermutation}
+use Rattle.std.specs.Map.{set_value, values_of}
+use Rattle.std.specs.Option.{option_or}
 use Rattle.dg_base.specs.declared.Place.{Place}
 use Rattle.token_list.specs.declared.Token.{Token}
 use Rattle.c_token.specs.declared.macros.Macro.{Macro}
-use Rattle.c_token.specs.declared.macros.Macro.TheVariants.{Short, Long}
 use Rattle.c_token.specs.declared.macros.Use.{Use}
-use Rattle.c_token.specs.declared.macros.Use.TheVariants.{Plain, Macro as MacroUse}
+use Rattle.c_token.specs.declared.macros.Use.TheVariants.{Macro as MacroUse}
+use Rattle.c_token.specs.declared.search.Entry.{Entry}
 use Rattle.c_token.specs.declared.search.Frame.{Frame}
 use Rattle.c_token.specs.declared.search.Passage.{Passage}
-use Rattle.c_token.specs.declared.sieve.Modes.{Modes}
+use Rattle.c_token.specs.declared.sieve.TheConstants.{MAX_TOKENS}
+use Rattle.c_token.specs.declared.skim.Context.{Context}
+use Rattle.c_token.specs.declared.skim.Effect.{Effect}
+use Rattle.c_token.specs.declared.skim.Kind.{Kind}
+use Rattle.c_token.specs.declared.skim.Region.{Region}
+use Rattle.c_token.specs.declared.skim.Region.TheVariants.{Dead}
 use Rattle.c_token.specs.Macros.{put_at, all_at}
-use Rattle.c_token.specs.Searching.{Hunt, uses_in, uses_of, next_use, passage_put, leave, Skips, Enters, Passes, GoesOn, GoesOnIf, GoesOnAt, Finishes, with_sieve, with_frames, with_frame}
-use Rattle.c_token.specs.Searching.Finishes.{done, step}
-use Rattle.c_token.specs.Seen.{token}
-use Rattle.c_token.specs.Sieving.{with_modes, feed_list, settled, is_decided}
-use Rattle.c_token.specs.Tables.{use_tokens, all_tokens, IsMacro, IsTable}
-use Rattle.c_token.proofs.Feeding.{Comes}
-use Rattle.c_token.proofs.Seeking.{first_unsupported, tail, comes_list, settled_tail, settled_moved, decided_same}
+use Rattle.c_token.specs.Searching.{uses_in, uses_of, next_use, next_frame, body_at, rest_of, before, passed, IsPassage, left_passage, repeated, AreBegun, resumed, Leads, LeadsBy, Seeking}
+use Rattle.c_token.specs.Sieving.{State, Has, feed, is_full}
+use Rattle.c_token.specs.Skimming.{Skim, extern_behind, context_behind, ahead, opened, bounded, fed, run, effect}
+use Rattle.c_token.specs.Tables.{use_tokens, all_tokens, IsTable}
+use Rattle.c_token.specs.Tokens.{is_unsupported, is_unsupported_name}
+use Rattle.c_token.proofs.Effects.{context_is}
+use Rattle.c_token.proofs.Ends.{macro_here, next_tokens, got_in}
+use Rattle.c_token.proofs.Holding.{Holds, HasBy, holds_fed, feed_holds}
+use Rattle.c_token.proofs.Running.{run_append, run_dead, run_alike, run_moved, run_keeps, moved, extern_at, ahead_at, opened_at}
 
--- a macro's tokens at a place
-abbrev pub body_at : List (List Token) → Place → ℕ → List Token
-body_at bodies place n = all_at place (get_or bodies n [])
+-- ---- what is found stays found
+found_first : (xs ys : List Token) (t : Token) → find is_unsupported xs ≡ Some t → find is_unsupported (xs ++ ys) ≡ Some t
+found_first xs ys t h = find-append is_unsupported xs ys ∙ ap (λ o. option_or o (find is_unsupported ys)) h
 
--- what is left of a frame
-abbrev pub frame_rest : List Macro → List (List Token) → Place → Frame → List Token
-frame_rest macros bodies place f = all_at place (all_tokens bodies (drop f.next (uses_of macros f.number)))
+pub run_found : (j : ℕ) (k : Skim) (us : List Token) (t : Token) → find is_unsupported k.kept ≡ Some t → find is_unsupported (run j k us).kept ≡ Some t
+run_found j k us t h = let more = run_keeps j k us in ap (find is_unsupported) more.1 ∙ found_first k.kept more.0 t h
 
--- the tokens of a macro, passed from these modes on, come to what the rest comes to now
-abbrev pub EntryClaim : Option Modes → List Token → (List Token → List Token) → List Token → Type 0
-EntryClaim None body left rest = Unit {0}
-EntryClaim (Some e) body left rest = (ts : List Token) → first_unsupported (tail e (body ++ ts)) ≡ first_unsupported (left (rest ++ ts))
+resumed_found : (macros : List Macro) (bodies : List (List Token)) (place : Place) (fs : List Frame) (k : Skim) (t : Token) → find is_unsupported k.kept ≡ Some t
+    → find is_unsupported (resumed macros bodies place fs k).kept ≡ Some t
+resumed_found macros bodies place [] k t h = h
+resumed_found macros bodies place (f ∷ fs) k t h =
+    resumed_found macros bodies place fs (run f.entry.behind k (rest_of macros bodies place f)) t (run_found f.entry.behind k (rest_of macros bodies place f) t h)
 
--- what these frames claim, where these tokens stand before them; in the end all comes to what is wanted
-abbrev pub Claims : List Macro → List (List Token) → Place → (List Token → List Token) → (List Token → List Token) → List Token → List Frame → Type 0
-Claims macros bodies place wanted left first [] = (ts : List Token) → first_unsupported (left (first ++ ts)) ≡ first_unsupported (wanted ts)
-Claims macros bodies place wanted left first (f ∷ fs) =
-    EntryClaim f.entry (body_at bodies place f.number) left (first ++ frame_rest macros bodies place f)
-    × Claims macros bodies place wanted left (first ++ frame_rest macros bodies place f) fs
+unsupported_at : (p : Place) (t : Token) → is_unsupported (put_at p t) ≡ is_unsupported t
+unfolding is_unsupported is_unsupported_name
+unsupported_at p t = refl
 
--- each passage tells the modes behind a macro's tokens
-abbrev pub ArePassages : List (List Token) → List (Option Passage) → Type 0
-ArePassages bodies ps = (n : ℕ) (p : Passage) → slice_get ps n ≡ Some (Some p) → (ts : List Token) → first_unsupported (tail p.entry (body_at bodies p.place n ++ ts)) ≡ first_unsupported (tail p.exit ts)
+none_found_at : (p : Place) (ts : List Token) → find is_unsupported ts ≡ None → find is_unsupported (all_at p ts) ≡ None
+none_found_at p [] h = refl
+none_found_at p (t ∷ ts) h = ap (λ b. cond b (Some (put_at p t)) (find is_unsupported (all_at p ts))) (unsupported_at p t) ∙ step (is_unsupported t) h (none_found_at p ts)
+  where
+    step : (b : Bool) → cond b (Some t) (find is_unsupported ts) ≡ None → (find is_unsupported ts ≡ None → find is_unsupported (all_at p ts) ≡ None)
+        → cond b (Some (put_at p t)) (find is_unsupported (all_at p ts)) ≡ None
+    step true e f = cc
+    step false e f = f e
 
-pub record Seeks (macros : List Macro) (bodies : List (List Token)) (place : Place) (wanted : List Token → List Token) (first : List Token) (h : Hunt) : Type 0 where
-  pub left : List Token → List Token
-  pub comes : Comes h.sieve left
-  pub claims : Claims macros bodies place wanted left first h.frames
-  pub passages : ArePassages bodies h.passages
+none_found_back : (p : Place) (ts : List Token) → find is_unsupported (all_at p ts) ≡ None → find is_unsupported ts ≡ None
+none_found_back p [] h = refl
+none_found_back p (t ∷ ts) h =
+    step (is_unsupported t) (ap (λ b. cond b (Some (put_at p t)) (find is_unsupported (all_at p ts))) (sym (unsupported_at p t)) ∙ h) (none_found_back p ts)
+  where
+    step : (b : Bool) → cond b (Some (put_at p t)) (find is_unsupported (all_at p ts)) ≡ None → (find is_unsupported (all_at p ts) ≡ None → find is_unsupported ts ≡ None)
+        → cond b (Some t) (find is_unsupported ts) ≡ None
+    step true e f = cc
+    step false e f = f e
 
-entry_moved : (e : Option Modes) (body : List Token) (left other : List Token → List Token) (first second rest : List Token)
-    → ((ts : List Token) → first_unsupported (left (first ++ ts)) ≡ first_unsupported (other (second ++ ts))) → EntryClaim e body left (first ++ rest) → EntryClaim e body other (second ++ rest)
-entry_moved None body left other first second rest m c = tt
-entry_moved (Some e) body left other first second rest m c =
-    λ ts. c ts ∙ (ap (λ us. first_unsupported (left us)) (simp append_assoc) ∙ (m (rest ++ ts) ∙ ap (λ us. first_unsupported (other us)) (simp append_assoc)))
+none_behind : (xs ys : List Token) → find is_unsupported (xs ++ ys) ≡ None → find is_unsupported ys ≡ None
+none_behind xs ys h = step (find is_unsupported xs) (sym (find-append is_unsupported xs ys) ∙ h)
+  where
+    step : (o : Option Token) → option_or o (find is_unsupported ys) ≡ None → find is_unsupported ys ≡ None
+    step None e = e
+    step (Some t) e = cc
 
-claims_moved : (macros : List Macro) (bodies : List (List Token)) (place : Place) (wanted left other : List Token → List Token) (first second : List Token) (fs : List Frame)
-    → ((ts : List Token) → first_unsupported (left (first ++ ts)) ≡ first_unsupported (other (second ++ ts))) → Claims macros bodies place wanted left first fs
-    → Claims macros bodies place wanted other second fs
-claims_moved macros bodies place wanted left other first second [] m c = λ ts. sym (m ts) ∙ c ts
-claims_moved macros bodies place wanted left other first second (f ∷ fs) m c =
-    let rest = frame_rest macros bodies place f in
-    let further : (ts : List Token) → first_unsupported (left ((first ++ rest) ++ ts)) ≡ first_unsupported (other ((second ++ rest) ++ ts)) =
-    λ ts. ap (λ us. first_unsupported (left us)) (simp append_assoc) ∙ (m (rest ++ ts) ∙ ap (λ us. first_unsupported (other us)) (simp append_assoc)) in
-    (entry_moved f.entry (body_at bodies place f.number) left other first second rest m c.0, claims_moved macros bodies place wanted left other (first ++ rest) (second ++ rest) fs further c.1)
+-- ---- a macro's tokens with others kept before them
+abbrev outer : Place → List Token → Skim → Skim
+outer place out k = moved place out k
 
--- tokens that stand before the frames are fed
-pub seeks_list : (macros : List Macro) (bodies : List (List Token)) (place : Place) (wanted : List Token → List Token) (us : List Token) (h : Hunt) → Seeks macros bodies place wanted us h
-    → Seeks macros bodies place wanted [] (with_sieve (feed_list h.sieve us) h)
-seeks_list macros bodies place wanted us h s = record {
-  left = λ ts. s.left (us ++ ts);
-  comes = comes_list us h.sieve s.left s.comes;
-  claims = claims_moved macros bodies place wanted s.left (λ ts. s.left (us ++ ts)) us [] h.frames (λ ts. refl) s.claims;
-  passages = s.passages;
+passed_from : (bodies : List (List Token)) (place : Place) (e : Entry) (out : List Token)
+    → run e.behind (before e out) (body_at place bodies e.number) ≡ outer place out (passed bodies e)
+passed_from bodies place e out =
+    ap (λ us. run e.behind (before e us) (body_at place bodies e.number)) (sym (append-nil out)) ∙ run_moved e.behind place out (before e []) (get_or bodies e.number [])
+
+length_at : (p : Place) (ts : List Token) → length (all_at p ts) ≡ length ts
+length_at p ts = length-map ts (put_at p)
+
+-- a macro is passed again
+pub has_repeated : (bodies : List (List Token)) (place : Place) (holds : Bool) (p : Passage) (s : State) (out : List Token) → IsPassage bodies holds p → s.holds ≡ holds → find is_unsupported out ≡ None
+    → (s.holds ≡ true → s.words ≡ take MAX_TOKENS out) → (s.holds ≡ true → s.count ≡ length out) → (p.count ≡ 0) ⊎ (is_full s ≡ true) → Has (repeated p s) (outer place out (passed bodies p.entry))
+has_repeated bodies place holds p s out is same none words count full = record {
+  context = sym is.context;
+  region = sym is.region;
+  supported = find-append is_unsupported out (all_at place (passed bodies p.entry).kept) ∙ (ap (λ o. option_or o (find is_unsupported (all_at place (passed bodies p.entry).kept))) none ∙ none_found_at place (passed bodies p.entry).kept is.supported);
+  words = λ h.
+      words h
+      ∙ ⊎_elim
+      (λ zero.
+      let nothing : length (all_at place (passed bodies p.entry).kept) ≡ 0 = length_at place (passed bodies p.entry).kept ∙ (is.count (sym same ∙ h) ∙ zero) in
+      ap (take MAX_TOKENS) (sym (no_more out (all_at place (passed bodies p.entry).kept) nothing)))
+      (λ f. let many : MAX_TOKENS ≤ length out = full_many s (length out) h (count h) f in sym (take-append-le MAX_TOKENS out (all_at place (passed bodies p.entry).kept) many))
+      full;
+  count = λ h.
+      ap (λ b. cond b (s.count + p.count) s.count) h
+      ∙ (let more = is.count (sym same ∙ h) in let len = length-append out (all_at place (passed bodies p.entry).kept) in omega (arith, count h, more, len, length_at place (passed bodies p.entry).kept));
 }
+  where
+    no_more : (xs ys : List Token) → length ys ≡ 0 → xs ++ ys ≡ xs
+    no_more xs [] h = append-nil xs
+    no_more xs (y ∷ ys) h = absurd (omega arith)
 
--- a macro's tokens are passed at once
-pub seeks_skip : (macros : List Macro) (bodies : List (List Token)) (place : Place) (wanted : List Token → List Token) (n : ℕ) (h new : Hunt)
-    → Seeks macros bodies place wanted (body_at bodies place n) h → Skips n place h new → Seeks macros bodies place wanted [] new
-seeks_skip macros bodies place wanted n h new s k =
-    let moved = settled_moved h.sieve s.left k.entry k.exit s.comes k.is_settled in
-    let same : (ts : List Token) → first_unsupported (s.left (body_at bodies place n ++ ts)) ≡ first_unsupported (moved.0 ts) =
-    λ ts. settled_tail h.sieve s.left k.entry s.comes k.is_settled (body_at bodies place n ++ ts) ∙ (s.passages n _ k.known ts ∙ sym (moved.2 ts)) in
-    let there : Seeks macros bodies place wanted [] (with_sieve (with_modes k.exit h.sieve) h) = record {
-      left = moved.0;
-      comes = moved.1;
-      claims = claims_moved macros bodies place wanted s.left moved.0 (body_at bodies place n) [] h.frames same s.claims;
-      passages = s.passages;
-    } in
-    subst (Seeks macros bodies place wanted []) (sym k.is) there
+    full_many : (s : State) (n : ℕ) → s.holds ≡ true → s.count ≡ n → is_full s ≡ true → MAX_TOKENS ≤ n
+    full_many s n h c f = let test : nat_le MAX_TOKENS s.count ≡ true = sym (ap (λ b. not b || nat_le MAX_TOKENS s.count) h) ∙ f in let le = leb-true MAX_TOKENS s.count test in omega arith
 
-entry_here : (e : Option Modes) (body : List Token) (left : List Token → List Token) → ((m : Modes) → e ≡ Some m → (ts : List Token) → first_unsupported (tail m ts) ≡ first_unsupported (left ts))
-    → EntryClaim e body left body
-entry_here None body left h = tt
-entry_here (Some m) body left h = λ ts. h m refl (body ++ ts)
+-- what is known of a macro that is left
+pub passage_left : (bodies : List (List Token)) (place : Place) (holds : Bool) (f : Frame) (s : State) (k : Skim) (out : List Token) → Has s k → s.holds ≡ holds → (holds ≡ true → length out ≡ f.count)
+    → k ≡ run f.entry.behind (before f.entry out) (body_at place bodies f.entry.number) → IsPassage bodies holds (left_passage s f)
+passage_left bodies place holds f s k out has same count is =
+    let all : k ≡ outer place out (passed bodies f.entry) = is ∙ passed_from bodies place f.entry out in
+    let kept : k.kept ≡ out ++ all_at place (passed bodies f.entry).kept = ap (λ (x : Skim). x.kept) all in
+    record {
+      context = sym (has.context ∙ ap (λ (x : Skim). x.context) all);
+      region = sym (has.region ∙ ap (λ (x : Skim). x.region) all);
+      supported = none_found_back place (passed bodies f.entry).kept (none_behind out (all_at place (passed bodies f.entry).kept) (ap (find is_unsupported) (sym kept) ∙ has.supported));
+      count = λ h.
+          let here = has.count (same ∙ h) in
+          let len = ap length kept ∙ length-append out (all_at place (passed bodies f.entry).kept) in
+          omega (arith, here, len, count h, length_at place (passed bodies f.entry).kept);
+    }
 
--- a macro is begun
-pub seeks_begin : (macros : List Macro) (bodies : List (List Token)) (place : Place) (wanted : List Token → List Token) (n : ℕ) (h : Hunt)
-    → Seeks macros bodies place wanted (body_at bodies place n) h → all_at place (all_tokens bodies (uses_of macros n)) ≡ body_at bodies place n
-    → Seeks macros bodies place wanted [] (with_frame (record { number = n; next = 0; entry = settled h.sieve }) h)
-seeks_begin macros bodies place wanted n h s e = record {
-  left = s.left;
-  comes = s.comes;
-  claims = (
-    subst (λ us. EntryClaim (settled h.sieve) (body_at bodies place n) s.left us) (sym e)
-        (entry_here (settled h.sieve) (body_at bodies place n) s.left (λ m k ts. sym (settled_tail h.sieve s.left m s.comes k ts))),
-    subst (λ us. Claims macros bodies place wanted s.left us h.frames) (sym e) s.claims,
-  );
-  passages = s.passages;
-}
-
-pub all_at_again : (p q : Place) (ts : List Token) → all_at p (all_at q ts) ≡ all_at p ts
+-- ---- steps, where nothing is found yet
+all_at_again : (p q : Place) (ts : List Token) → all_at p (all_at q ts) ≡ all_at p ts
 all_at_again p q [] = refl
 all_at_again p q (t ∷ ts) = ap (λ us. put_at p t ∷ us) (all_at_again p q ts)
 
-got_in : {A : Type 0} (xs : List A) (n : ℕ) (x : A) → slice_get xs n ≡ Some x → (n < length xs) × (get_or xs n x ≡ x)
-got_in [] n x e = cc
-got_in (y ∷ ys) zero x e = let same : y ≡ x = cc in (omega arith, same)
-got_in (y ∷ ys) (suc n) x e = let there = got_in ys n x e in (omega (arith, there.0), there.1)
+-- a use's tokens are at its own place
+pub tokens_at : (bodies : List (List Token)) (place q : Place) (n : ℕ) → all_at place (use_tokens bodies (MacroUse n q)) ≡ body_at place bodies n
+tokens_at bodies place q n = all_at_again place q (get_or bodies n [])
 
--- the macro with a number is made of its body
-pub macro_here : (macros : List Macro) (bodies : List (List Token)) (n : ℕ) (m : Macro) → IsTable macros bodies → slice_get macros n ≡ Some m → IsMacro bodies n m (get_or bodies n [])
-macro_here macros bodies n m t e =
-    let there = got_in macros n m e in
-    let P : Macro → Type 0 = λ x. IsMacro bodies n x (get_or bodies n []) in
-    subst P there.1 (t.at n m there.0)
+-- the state moves on, to what comes of the tokens before the frames
+leads_on : (macros : List Macro) (bodies : List (List Token)) (place : Place) (s new : State) (fs : List Frame) (j : ℕ) (us : List Token) (w : Skim) (l : Leads macros bodies place s fs j us w)
+    → new.holds ≡ s.holds → (k : Skim) → run j l.now us ≡ k → Has new k → Leads macros bodies place new fs 0 [] w
+leads_on macros bodies place s new fs j us w l same k e has = record {
+  now = k;
+  has = has;
+  begun = subst (λ h. AreBegun macros bodies place h fs k) (sym same) (subst (AreBegun macros bodies place s.holds fs) e l.begun);
+  is = ap (resumed macros bodies place fs) (sym e) ∙ l.is;
+}
 
-seeks_enter : (macros : List Macro) (bodies : List (List Token)) (place : Place) (wanted : List Token → List Token) (n : ℕ) (m : Option Macro) (old new : Hunt) → IsTable macros bodies
-    → slice_get macros n ≡ m → Seeks macros bodies place wanted (body_at bodies place n) old → Enters m n place old new → Seeks macros bodies place wanted [] new
-seeks_enter macros bodies place wanted n None old new t g s e = absurd e
-seeks_enter macros bodies place wanted n (Some (Short words)) old new t g s e =
-    let made = macro_here macros bodies n (Short words) t g in
-    let same : body_at bodies place n ≡ all_at place (map token words) = ap (all_at place) (sym made.0) in
-    subst (Seeks macros bodies place wanted []) (sym e) (seeks_list macros bodies place wanted (all_at place (map token words)) old (subst (λ us. Seeks macros bodies place wanted us old) same s))
-seeks_enter macros bodies place wanted n (Some (Long count uses)) old new t g s e =
-    let made = macro_here macros bodies n (Long count uses) t g in
-    let body : all_at place (all_tokens bodies (uses_of macros n)) ≡ body_at bodies place n = ap (λ us. all_at place (all_tokens bodies us)) (ap uses_in g) ∙ ap (all_at place) made.0 in
-    ⊎_elim (λ k. seeks_skip macros bodies place wanted n old new s k) (λ k. subst (Seeks macros bodies place wanted []) (sym k) (seeks_begin macros bodies place wanted n old s body)) e
+-- a token is fed
+pub leads_fed : (macros : List Macro) (bodies : List (List Token)) (place : Place) (s new : State) (fs : List Frame) (j b : ℕ) (t : Token) (w : Skim) → Leads macros bodies place s fs j (t ∷ []) w
+    → s.unsupported ≡ None → b ≡ bounded j → new ≡ feed (nat_lt 0 b) s t → new.holds ≡ s.holds → LeadsBy new.unsupported macros bodies place new fs 0 [] w
+leads_fed macros bodies place s new fs j b t w l none e is same = by new.unsupported refl
+  where
+    test : nat_lt 0 b ≡ nat_lt 0 j
+    test =
+        ⊎_elim
+        (λ some. let other : 0 < b = omega arith in lt-ltb 0 b other ∙ sym (lt-ltb 0 j some))
+        (λ nothing. let other : b ≤ 0 = omega arith in le-ltb 0 b other ∙ sym (le-ltb 0 j nothing))
+        (cases_lt 0 j)
 
--- a use is passed
-pub seeks_pass : (macros : List Macro) (bodies : List (List Token)) (place : Place) (wanted : List Token → List Token) (u : Use) (old new : Hunt) → IsTable macros bodies
-    → Seeks macros bodies place wanted (all_at place (use_tokens bodies u)) old → Passes macros u place old new → Seeks macros bodies place wanted [] new
-seeks_pass macros bodies place wanted (Plain word) old new t s p =
-    subst (Seeks macros bodies place wanted []) (sym p) (seeks_list macros bodies place wanted (put_at place (token word) ∷ []) old s)
-seeks_pass macros bodies place wanted (MacroUse n q) old new t s p =
-    let here = subst (λ us. Seeks macros bodies place wanted us old) (all_at_again place q (get_or bodies n [])) s in
-    seeks_enter macros bodies place wanted n (slice_get macros n) old new t refl here p
+    there : Holds new (fed (nat_lt 0 j) l.now t)
+    there = subst (λ (x : State). Holds x (fed (nat_lt 0 j) l.now t)) (sym (is ∙ ap (λ c. feed c s t) test)) (holds_fed (nat_lt 0 j) s l.now t l.has none)
 
-got_set : {A : Type 0} (xs : List A) (i : ℕ) (v : A) (n : ℕ) (y : A) → slice_get (set xs i v) n ≡ Some y → ((n ≡ i) × (v ≡ y)) ⊎ (slice_get xs n ≡ Some y)
-got_set [] i v n y e = inr e
-got_set (x ∷ xs) zero v zero y e = inl (refl, cc)
-got_set (x ∷ xs) zero v (suc n) y e = inr e
-got_set (x ∷ xs) (suc i) v zero y e = inr e
-got_set (x ∷ xs) (suc i) v (suc n) y e = ⊎_elim (λ k. inl (ap suc k.0, k.1)) (λ k. inr k) (got_set xs i v n y e)
+    by : (o : Option Token) → new.unsupported ≡ o → LeadsBy o macros bodies place new fs 0 [] w
+    by (Some u) h =
+        let found : find is_unsupported (fed (nat_lt 0 j) l.now t).kept ≡ Some u = subst (λ o. HasBy o new (fed (nat_lt 0 j) l.now t)) h there in
+        ap (λ (x : Skim). find is_unsupported x.kept) (sym l.is) ∙ resumed_found macros bodies place fs (fed (nat_lt 0 j) l.now t) u found
+    by None h = leads_on macros bodies place s new fs j (t ∷ []) w l same (fed (nat_lt 0 j) l.now t) refl (subst (λ o. HasBy o new (fed (nat_lt 0 j) l.now t)) h there)
 
-are_passages_put : (bodies : List (List Token)) (ps : List (Option Passage)) (n : ℕ) (place : Place) (entry exit : Option Modes) (left : List Token → List Token) → ArePassages bodies ps
-    → EntryClaim entry (body_at bodies place n) left [] → ((m : Modes) → exit ≡ Some m → (ts : List Token) → first_unsupported (left ts) ≡ first_unsupported (tail m ts))
-    → ArePassages bodies (passage_put n place entry exit ps)
-are_passages_put bodies ps n place None exit left a c s = a
-are_passages_put bodies ps n place (Some e) None left a c s = a
-are_passages_put bodies ps n place (Some e) (Some x) left a c s = λ k p g.
-    ⊎_elim
-    (λ same.
-    let here : (ts : List Token) → first_unsupported (tail e (body_at bodies place n ++ ts)) ≡ first_unsupported (tail x ts) = λ ts. c ts ∙ s x refl ts in
-    let passage : record { place = place; entry = e; exit = x } ≡ p = cc (same.1) in
-    let P : Passage → Type 0 = λ q. (ts : List Token) → first_unsupported (tail q.entry (body_at bodies q.place k ++ ts)) ≡ first_unsupported (tail q.exit ts) in
-    subst P passage (subst (λ (j : ℕ). (ts : List Token) → first_unsupported (tail e (body_at bodies place j ++ ts)) ≡ first_unsupported (tail x ts)) (sym same.0) here))
-    (λ other. a k p other)
-    (got_set ps n (Some (record { place = place; entry = e; exit = x })) k (Some p) g)
+-- tokens that don't end what is left out
+pub leads_skipped : (macros : List Macro) (bodies : List (List Token)) (place : Place) (s new : State) (fs : List Frame) (j n : ℕ) (w : Skim) (kind : Kind) (depth c o : ℕ)
+    → Leads macros bodies place s fs j (body_at place bodies n) w → s.region ≡ Dead kind depth → c ≡ ahead 0 s.context.in_extern (get_or bodies n []) → o ≡ opened s.context.in_extern (get_or bodies n [])
+    → c ≤ depth → new ≡ record s { context = context_behind s.context (get_or bodies n []); region = Dead kind (depth - c + o) } → Leads macros bodies place new fs 0 [] w
+leads_skipped macros bodies place s new fs j n w kind depth c o l dead closers openers fits is =
+    let body = get_or bodies n [] in
+    let out : List Token = l.now.kept in
+    let here : l.now ≡ moved place out (record { context = s.context; region = Dead kind depth; kept = [] }) =
+    ap (λ m. record { context = m; region = l.now.region; kept = out }) (sym l.has.context)
+    ∙ (ap (λ r. record { context = s.context; region = r; kept = out }) (sym l.has.region ∙ dead) ∙ ap (λ us. record { context = s.context; region = Dead kind depth; kept = us }) (sym (append-nil out))) in
+    let fit : ahead 0 s.context.in_extern body ≤ depth = omega arith in
+    let depths : depth - ahead 0 s.context.in_extern body + opened s.context.in_extern body ≡ depth - c + o = ap (λ x. depth - x + opened s.context.in_extern body) (sym closers) ∙ ap (λ x. depth - c + x) (sym openers) in
+    let gone : run j l.now (body_at place bodies n) ≡ record { context = context_behind s.context body; region = Dead kind (depth - c + o); kept = out } =
+    ap (λ (x : Skim). run j x (body_at place bodies n)) here
+    ∙ (run_moved j place out (record { context = s.context; region = Dead kind depth; kept = [] }) body
+    ∙ (ap (moved place out) (run_dead j s.context kind depth [] body fit)
+    ∙ (ap (λ us. record { context = context_behind s.context body; region = Dead kind (depth - ahead 0 s.context.in_extern body + opened s.context.in_extern body); kept = us }) (append-nil out)
+    ∙ ap (λ i. record { context = context_behind s.context body; region = Dead kind i; kept = out }) depths))) in
+    leads_on macros bodies place s new fs j (body_at place bodies n) w l (ap (λ (x : State). x.holds) is) (record { context = context_behind s.context body; region = Dead kind (depth - c + o); kept = out }) gone
+    (subst (λ (x : State). Has x (record { context = context_behind s.context body; region = Dead kind (depth - c + o); kept = out })) (sym is)
+    (record { context = refl; region = refl; supported = l.has.supported; words = l.has.words; count = l.has.count }))
+
+-- what closes behind a macro counts only as far as the macro opens it
+abbrev pub IsEntry : State → List (List Token) → ℕ → ℕ → Entry → Type 0
+IsEntry s bodies n j e = (e.number ≡ n) × (e.context ≡ s.context) × (e.region ≡ s.region) × (e.behind ≡ min j (opened s.context.in_extern (get_or bodies n [])))
+
+entered : (macros : List Macro) (bodies : List (List Token)) (place : Place) (s : State) (fs : List Frame) (j n : ℕ) (w : Skim) (e : Entry) (l : Leads macros bodies place s fs j (body_at place bodies n) w)
+    → IsEntry s bodies n j e → (run j l.now (body_at place bodies n) ≡ run e.behind l.now (body_at place bodies e.number)) × (l.now ≡ before e l.now.kept)
+entered macros bodies place s fs j n w e l i =
+    let opens : opened l.now.context.in_extern (body_at place bodies n) ≡ opened s.context.in_extern (get_or bodies n []) =
+    ap (λ (m : Context). opened m.in_extern (body_at place bodies n)) (sym l.has.context) ∙ opened_at place s.context.in_extern (get_or bodies n []) in
+    let behind = i.3 in
+    let alike : min j (opened l.now.context.in_extern (body_at place bodies n)) ≡ min e.behind (opened l.now.context.in_extern (body_at place bodies n)) = omega arith in (
+      run_alike j e.behind l.now (body_at place bodies n) alike ∙ ap (λ x. run e.behind l.now (body_at place bodies x)) (sym i.0),
+      ap (λ m. record { context = m; region = l.now.region; kept = l.now.kept }) (sym (i.1 ∙ l.has.context)) ∙ ap (λ r. record { context = e.context; region = r; kept = l.now.kept }) (sym (i.2 ∙ l.has.region)),
+    )
+
+-- a macro is passed that was passed before
+pub leads_repeated : (macros : List Macro) (bodies : List (List Token)) (place : Place) (holds : Bool) (s new : State) (fs : List Frame) (j n : ℕ) (w : Skim) (e : Entry) (p : Passage)
+    → Leads macros bodies place s fs j (body_at place bodies n) w → IsEntry s bodies n j e → p.entry ≡ e → IsPassage bodies holds p → s.holds ≡ holds → (p.count ≡ 0) ⊎ (is_full s ≡ true)
+    → new ≡ repeated p s → Leads macros bodies place new fs 0 [] w
+leads_repeated macros bodies place holds s new fs j n w e p l i known is same full new_is =
+    let out : List Token = l.now.kept in
+    let begin = entered macros bodies place s fs j n w e l i in
+    let gone : run j l.now (body_at place bodies n) ≡ outer place out (passed bodies p.entry) =
+    begin.0
+    ∙ (ap (λ (x : Skim). run e.behind x (body_at place bodies e.number)) begin.1 ∙ (passed_from bodies place e out ∙ ap (λ (x : Entry). outer place out (passed bodies x)) (sym known))) in
+    leads_on macros bodies place s new fs j (body_at place bodies n) w l (ap (λ (x : State). x.holds) new_is) (outer place out (passed bodies p.entry)) gone
+    (subst (λ (x : State). Has x (outer place out (passed bodies p.entry))) (sym new_is) (has_repeated bodies place holds p s out is same l.has.supported l.has.words l.has.count full))
+
+uses_here : (macros : List Macro) (bodies : List (List Token)) (n : ℕ) → IsTable macros bodies → n < length macros → all_tokens bodies (uses_of macros n) ≡ get_or bodies n []
+uses_here macros bodies n t h = step (slice_get macros n) refl
+  where
+    step : (o : Option Macro) → slice_get macros n ≡ o → all_tokens bodies (uses_in o) ≡ get_or bodies n []
+    step None e = absurd (none_above macros n h e)
+      where
+        none_above : (ms : List Macro) (k : ℕ) → k < length ms → slice_get ms k ≡ None → ⊥
+        none_above [] k h e = omega arith
+        none_above (m ∷ ms) zero h e = cc
+        none_above (m ∷ ms) (suc k) h e = none_above ms k (omega arith) e
+    step (Some m) e = (macro_here macros bodies n m t e).tokens
+
+-- a macro is begun
+pub leads_begun : (macros : List Macro) (bodies : List (List Token)) (place : Place) (s : State) (fs : List Frame) (j n : ℕ) (w : Skim) (f : Frame) → IsTable macros bodies → n < length macros
+    → Leads macros bodies place s fs j (body_at place bodies n) w → IsEntry s bodies n j f.entry → f.next ≡ 0 → f.count ≡ s.count → Leads macros bodies place s (f ∷ fs) 0 [] w
+leads_begun macros bodies place s fs j n w f t within l i first count =
+    let begin = entered macros bodies place s fs j n w f.entry l i in
+    let rest : rest_of macros bodies place f ≡ body_at place bodies f.entry.number =
+    ap (λ x. all_at place (all_tokens bodies (drop x (uses_of macros f.entry.number)))) first
+    ∙ (ap (λ x. all_at place (all_tokens bodies (uses_of macros x))) i.0 ∙ (ap (all_at place) (uses_here macros bodies n t within) ∙ ap (body_at place bodies) (sym i.0))) in
+    let gone : run j l.now (body_at place bodies n) ≡ run f.entry.behind l.now (rest_of macros bodies place f) = begin.0 ∙ ap (run f.entry.behind l.now) (sym rest) in
+    record {
+      now = l.now;
+      has = l.has;
+      begun = (
+        record {
+          out = l.now.kept;
+          is = ap (run f.entry.behind l.now) rest ∙ ap (λ (x : Skim). run f.entry.behind x (body_at place bodies f.entry.number)) begin.1;
+          count = λ h. sym (l.has.count h) ∙ sym count;
+        },
+        subst (AreBegun macros bodies place s.holds fs) gone l.begun,
+      );
+      is = ap (resumed macros bodies place fs) (sym gone) ∙ l.is;
+    }
 
 got_none : {A : Type 0} (xs : List A) (n : ℕ) → slice_get xs n ≡ None → drop n xs ≡ []
 got_none [] zero e = refl
@@ -175,71 +263,158 @@ got_none [] (suc n) e = refl
 got_none (x ∷ xs) zero e = cc
 got_none (x ∷ xs) (suc n) e = got_none xs n e
 
-got_some : {A : Type 0} (xs : List A) (n : ℕ) (x : A) → slice_get xs n ≡ Some x → drop n xs ≡ x ∷ drop (n + 1) xs
-got_some [] n x e = cc
-got_some (y ∷ ys) zero x e = let same : y ≡ x = cc in ap (λ z. z ∷ ys) same
-got_some (y ∷ ys) (suc n) x e = got_some ys n x e ∙ (let k : suc (n + 1) ≡ suc n + 1 = omega arith in ap (λ j. x ∷ drop j (y ∷ ys)) k)
+-- a macro at its end is left
+pub leads_left : (macros : List Macro) (bodies : List (List Token)) (place : Place) (holds : Bool) (s : State) (fs : List Frame) (w : Skim) (f : Frame) → Leads macros bodies place s (f ∷ fs) 0 [] w
+    → s.holds ≡ holds → next_use macros f ≡ None → Leads macros bodies place s fs 0 [] w × IsPassage bodies holds (left_passage s f)
+leads_left macros bodies place holds s fs w f l same end =
+    let nothing : rest_of macros bodies place f ≡ [] = ap (λ us. all_at place (all_tokens bodies us)) (got_none (uses_of macros f.entry.number) f.next end) in
+    let stays : run f.entry.behind l.now (rest_of macros bodies place f) ≡ l.now = ap (run f.entry.behind l.now) nothing in (
+      record { now = l.now; has = l.has; begun = subst (AreBegun macros bodies place s.holds fs) stays l.begun.1; is = ap (resumed macros bodies place fs) (sym stays) ∙ l.is },
+      passage_left bodies place holds f s l.now l.begun.0.out l.has same (λ h. l.begun.0.count (same ∙ h)) (sym stays ∙ l.begun.0.is),
+    )
 
--- a frame at its end is left
-seeks_leave : (macros : List Macro) (bodies : List (List Token)) (place : Place) (wanted : List Token → List Token) (f : Frame) (fs : List Frame) (h : Hunt) → Seeks macros bodies place wanted [] h
-    → h.frames ≡ f ∷ fs → next_use macros f ≡ None → Seeks macros bodies place wanted [] (leave f place (with_frames fs h))
-seeks_leave macros bodies place wanted f fs h s e k =
-    let claims = subst (Claims macros bodies place wanted s.left []) e s.claims in
-    let nothing : frame_rest macros bodies place f ≡ [] = ap (λ us. all_at place (all_tokens bodies us)) (got_none (uses_of macros f.number) f.next k) in
+-- the next use of a macro stands before what is left of it then
+pub leads_next : (macros : List Macro) (bodies : List (List Token)) (place : Place) (s : State) (fs : List Frame) (w : Skim) (f : Frame) (u : Use) → Leads macros bodies place s (f ∷ fs) 0 [] w → next_use macros f ≡ Some u
+    → Leads macros bodies place s (next_frame f ∷ fs)
+    (ahead f.entry.behind (extern_behind s.context.in_extern (use_tokens bodies u)) (all_tokens bodies (drop (f.next + 1) (uses_of macros f.entry.number)))) (all_at place (use_tokens bodies u)) w
+leads_next macros bodies place s fs w f u l e =
+    let uses = uses_of macros f.entry.number in
+    let us = all_at place (use_tokens bodies u) in
+    let got = got_in uses f.next u e in
+    let rest = all_tokens bodies (drop (f.next + 1) uses) in
+    let split : rest_of macros bodies place f ≡ us ++ rest_of macros bodies place (next_frame f) =
+    ap (all_at place) (next_tokens bodies uses f.next u got.0 ∙ ap (λ x. use_tokens bodies x ++ rest) got.1) ∙ map-append (put_at place) (use_tokens bodies u) rest in
+    let j = ahead f.entry.behind (extern_behind s.context.in_extern (use_tokens bodies u)) rest in
+    let same : ahead f.entry.behind (extern_behind l.now.context.in_extern us) (rest_of macros bodies place (next_frame f)) ≡ j =
+    ahead_at place f.entry.behind (extern_behind l.now.context.in_extern us) rest
+    ∙ ap (λ b. ahead f.entry.behind b rest) (extern_at place l.now.context.in_extern (use_tokens bodies u) ∙ ap (λ (m : Context). extern_behind m.in_extern (use_tokens bodies u)) (sym l.has.context)) in
+    let gone : run f.entry.behind l.now (rest_of macros bodies place f) ≡ run f.entry.behind (run j l.now us) (rest_of macros bodies place (next_frame f)) =
+    ap (run f.entry.behind l.now) split
+    ∙ (run_append f.entry.behind l.now us (rest_of macros bodies place (next_frame f)) ∙ ap (λ i. run f.entry.behind (run i l.now us) (rest_of macros bodies place (next_frame f))) same) in
     record {
-      left = s.left;
-      comes = s.comes;
-      claims = subst (λ us. Claims macros bodies place wanted s.left us fs) nothing claims.1;
-      passages =
-          are_passages_put bodies h.passages f.number place f.entry (settled h.sieve) s.left s.passages
-          (subst (EntryClaim f.entry (body_at bodies place f.number) s.left) nothing claims.0) (λ m j ts. settled_tail h.sieve s.left m s.comes j ts);
-    }
-
--- where all is decided, a frame is left out
-seeks_decided : (macros : List Macro) (bodies : List (List Token)) (place : Place) (wanted : List Token → List Token) (f : Frame) (fs : List Frame) (h : Hunt) → Seeks macros bodies place wanted [] h
-    → h.frames ≡ f ∷ fs → is_decided h.sieve ≡ true → Seeks macros bodies place wanted [] (with_frames fs h)
-seeks_decided macros bodies place wanted f fs h s e d =
-    let claims = subst (Claims macros bodies place wanted s.left []) e s.claims in
-    record {
-      left = s.left;
-      comes = s.comes;
-      claims = claims_moved macros bodies place wanted s.left s.left (frame_rest macros bodies place f) [] fs (λ ts. decided_same h.sieve s.left s.comes d _ _) claims.1;
-      passages = s.passages;
-    }
-
--- a frame's next use stands before what is left of the frame then
-seeks_next : (macros : List Macro) (bodies : List (List Token)) (place : Place) (wanted : List Token → List Token) (f : Frame) (fs : List Frame) (u : Use) (h : Hunt)
-    → Seeks macros bodies place wanted [] h → h.frames ≡ f ∷ fs → next_use macros f ≡ Some u
-    → Seeks macros bodies place wanted (all_at place (use_tokens bodies u)) (with_frame (record { number = f.number; next = f.next + 1; entry = f.entry }) (with_frames fs h))
-seeks_next macros bodies place wanted f fs u h s e k =
-    let claims = subst (Claims macros bodies place wanted s.left []) e s.claims in
-    let next : Frame = record { number = f.number; next = f.next + 1; entry = f.entry } in
-    let split : frame_rest macros bodies place f ≡ all_at place (use_tokens bodies u) ++ frame_rest macros bodies place next =
-    ap (λ us. all_at place (all_tokens bodies us)) (got_some (uses_of macros f.number) f.next u k) ∙ map-append (put_at place) (use_tokens bodies u) _ in
-    record {
-      left = s.left;
-      comes = s.comes;
-      claims = (
-        subst (EntryClaim f.entry (body_at bodies place f.number) s.left) split claims.0,
-        subst (λ us. Claims macros bodies place wanted s.left us fs) split claims.1,
+      now = l.now;
+      has = l.has;
+      begun = (
+        record { out = l.begun.0.out; is = sym gone ∙ l.begun.0.is; count = l.begun.0.count },
+        subst (AreBegun macros bodies place s.holds fs) gone l.begun.1,
       );
-      passages = s.passages;
+      is = ap (resumed macros bodies place fs) (sym gone) ∙ l.is;
     }
 
-seeks_go_on : (macros : List Macro) (bodies : List (List Token)) (place : Place) (wanted : List Token → List Token) (f : Frame) (fs : List Frame) (old new : Hunt) → IsTable macros bodies
-    → Seeks macros bodies place wanted [] old → old.frames ≡ f ∷ fs → GoesOn macros f place (with_frames fs old) new → Seeks macros bodies place wanted [] new
-seeks_go_on macros bodies place wanted f fs old new t s e g = choose (is_decided old.sieve) refl g
+-- ---- the same of a search
+-- what is found stays so
+pub seeks_found : (macros : List Macro) (bodies : List (List Token)) (place : Place) (holds : Bool) (s : State) (known : List Passage) (fs gs : List Frame) (i j : ℕ) (us vs : List Token) (w : Skim)
+    → Seeking macros bodies place holds s known fs j us w → is_some s.unsupported ≡ true → Seeking macros bodies place holds s known gs i vs w
+seeks_found macros bodies place holds s known fs gs i j us vs w h e = record { holds_same = h.holds_same; passages = h.passages; leads = step s.unsupported h.leads e }
   where
-    at : (o : Option Use) → next_use macros f ≡ o → GoesOnAt o macros f place (with_frames fs old) new → Seeks macros bodies place wanted [] new
-    at None k n = subst (Seeks macros bodies place wanted []) (sym n) (seeks_leave macros bodies place wanted f fs old s e k)
-    at (Some u) k n = seeks_pass macros bodies place wanted u _ new t (seeks_next macros bodies place wanted f fs u old s e k) n
+    step : (o : Option Token) → LeadsBy o macros bodies place s fs j us w → is_some o ≡ true → LeadsBy o macros bodies place s gs i vs w
+    step (Some t) l e = l
+    step None l e = cc
 
-    choose : (d : Bool) → is_decided old.sieve ≡ d → GoesOnIf d macros f place (with_frames fs old) new → Seeks macros bodies place wanted [] new
-    choose true d n = subst (Seeks macros bodies place wanted []) (sym n) (seeks_decided macros bodies place wanted f fs old s e d)
-    choose false d n = at (next_use macros f) refl n
+open_leads : (macros : List Macro) (bodies : List (List Token)) (place : Place) (holds : Bool) (s : State) (known : List Passage) (fs : List Frame) (j : ℕ) (us : List Token) (w : Skim)
+    → Seeking macros bodies place holds s known fs j us w → s.unsupported ≡ None → Leads macros bodies place s fs j us w
+open_leads macros bodies place holds s known fs j us w h none = subst (λ o. LeadsBy o macros bodies place s fs j us w) none h.leads
 
--- all frames are passed
-pub seeks_finishes : (macros : List Macro) (bodies : List (List Token)) (place : Place) (wanted : List Token → List Token) (old new : Hunt) → IsTable macros bodies
-    → Seeks macros bodies place wanted [] old → Finishes macros place old new → Seeks macros bodies place wanted [] new × (new.frames ≡ [])
-seeks_finishes macros bodies place wanted old new t s (done e) = (s, e)
-seeks_finishes macros bodies place wanted old new t s (step f fs e g r) = seeks_finishes macros bodies place wanted _ new t (seeks_go_on macros bodies place wanted f fs old _ t s e g) r
+seeks_open : (macros : List Macro) (bodies : List (List Token)) (place : Place) (holds : Bool) (s : State) (known : List Passage) (fs : List Frame) (j : ℕ) (us : List Token) (w : Skim) → s.holds ≡ holds
+    → All (IsPassage bodies holds) known → s.unsupported ≡ None → Leads macros bodies place s fs j us w → Seeking macros bodies place holds s known fs j us w
+seeks_open macros bodies place holds s known fs j us w same all none l = record { holds_same = same; passages = all; leads = subst (λ o. LeadsBy o macros bodies place s fs j us w) (sym none) l }
+
+pub seeks_fed : (macros : List Macro) (bodies : List (List Token)) (place : Place) (holds : Bool) (s new : State) (known : List Passage) (fs : List Frame) (j b : ℕ) (t : Token) (w : Skim)
+    → Seeking macros bodies place holds s known fs j (t ∷ []) w → s.unsupported ≡ None → b ≡ bounded j → new ≡ feed (nat_lt 0 b) s t → Seeking macros bodies place holds new known fs 0 [] w
+seeks_fed macros bodies place holds s new known fs j b t w h none e is =
+    let same : new.holds ≡ s.holds = ap (λ (x : State). x.holds) is ∙ feed_holds (nat_lt 0 b) s t in
+    record {
+      holds_same = same ∙ h.holds_same;
+      passages = h.passages;
+      leads = leads_fed macros bodies place s new fs j b t w (open_leads macros bodies place holds s known fs j (t ∷ []) w h none) none e is same;
+    }
+
+pub seeks_skipped : (macros : List Macro) (bodies : List (List Token)) (place : Place) (holds : Bool) (s new : State) (known : List Passage) (fs : List Frame) (j n : ℕ) (w : Skim) (kind : Kind) (depth c o : ℕ)
+    → Seeking macros bodies place holds s known fs j (body_at place bodies n) w → s.unsupported ≡ None → s.region ≡ Dead kind depth → c ≡ ahead 0 s.context.in_extern (get_or bodies n [])
+    → o ≡ opened s.context.in_extern (get_or bodies n []) → c ≤ depth → new ≡ record s { context = context_behind s.context (get_or bodies n []); region = Dead kind (depth - c + o) }
+    → Seeking macros bodies place holds new known fs 0 [] w
+seeks_skipped macros bodies place holds s new known fs j n w kind depth c o h none dead closers openers fits is =
+    seeks_open macros bodies place holds new known fs 0 [] w (ap (λ (x : State). x.holds) is ∙ h.holds_same) h.passages (ap (λ (x : State). x.unsupported) is ∙ none)
+    (leads_skipped macros bodies place s new fs j n w kind depth c o (open_leads macros bodies place holds s known fs j (body_at place bodies n) w h none) dead closers openers fits is)
+
+pub seeks_repeated : (macros : List Macro) (bodies : List (List Token)) (place : Place) (holds : Bool) (s new : State) (known : List Passage) (fs : List Frame) (j n : ℕ) (w : Skim) (e : Entry) (p : Passage)
+    → Seeking macros bodies place holds s known fs j (body_at place bodies n) w → s.unsupported ≡ None → IsEntry s bodies n j e → p.entry ≡ e → IsAmong known p → (p.count ≡ 0) ⊎ (is_full s ≡ true)
+    → new ≡ repeated p s → Seeking macros bodies place holds new known fs 0 [] w
+seeks_repeated macros bodies place holds s new known fs j n w e p h none i same among full is =
+    let P : Passage → Type 0 = IsPassage bodies holds in
+    let valid : IsPassage bodies holds p = subst P (sym among.1.1) (h.passages among.0 p among.1.0) in
+    seeks_open macros bodies place holds new known fs 0 [] w (ap (λ (x : State). x.holds) is ∙ h.holds_same) h.passages (ap (λ (x : State). x.unsupported) is ∙ none)
+    (leads_repeated macros bodies place holds s new fs j n w e p (open_leads macros bodies place holds s known fs j (body_at place bodies n) w h none) i same valid h.holds_same full is)
+
+pub seeks_begun : (macros : List Macro) (bodies : List (List Token)) (place : Place) (holds : Bool) (s : State) (known : List Passage) (fs : List Frame) (j n : ℕ) (w : Skim) (f : Frame) → IsTable macros bodies
+    → n < length macros → Seeking macros bodies place holds s known fs j (body_at place bodies n) w → s.unsupported ≡ None → IsEntry s bodies n j f.entry → f.next ≡ 0 → f.count ≡ s.count
+    → Seeking macros bodies place holds s known (f ∷ fs) 0 [] w
+seeks_begun macros bodies place holds s known fs j n w f t within h none i first count =
+    seeks_open macros bodies place holds s known (f ∷ fs) 0 [] w h.holds_same h.passages none
+    (leads_begun macros bodies place s fs j n w f t within (open_leads macros bodies place holds s known fs j (body_at place bodies n) w h none) i first count)
+
+pub seeks_left : (macros : List Macro) (bodies : List (List Token)) (place : Place) (holds : Bool) (s : State) (known after : List Passage) (fs : List Frame) (w : Skim) (f : Frame)
+    → Seeking macros bodies place holds s known (f ∷ fs) 0 [] w → s.unsupported ≡ None → next_use macros f ≡ None
+    → (All (IsPassage bodies holds) known → IsPassage bodies holds (left_passage s f) → All (IsPassage bodies holds) after) → Seeking macros bodies place holds s after fs 0 [] w
+seeks_left macros bodies place holds s known after fs w f h none end put =
+    let there = leads_left macros bodies place holds s fs w f (open_leads macros bodies place holds s known (f ∷ fs) 0 [] w h none) h.holds_same end in
+    seeks_open macros bodies place holds s after fs 0 [] w h.holds_same (put h.passages there.1) none there.0
+
+-- how many brackets close behind the next use
+abbrev pub next_closers : List Macro → List (List Token) → State → Frame → Use → ℕ
+next_closers macros bodies s f u = ahead f.entry.behind (extern_behind s.context.in_extern (use_tokens bodies u)) (all_tokens bodies (drop (f.next + 1) (uses_of macros f.entry.number)))
+
+pub seeks_next : (macros : List Macro) (bodies : List (List Token)) (place : Place) (holds : Bool) (s : State) (known : List Passage) (fs : List Frame) (w : Skim) (f : Frame) (u : Use)
+    → Seeking macros bodies place holds s known (f ∷ fs) 0 [] w → s.unsupported ≡ None → next_use macros f ≡ Some u
+    → Seeking macros bodies place holds s known (next_frame f ∷ fs) (next_closers macros bodies s f u) (all_at place (use_tokens bodies u)) w
+seeks_next macros bodies place holds s known fs w f u h none e =
+    seeks_open macros bodies place holds s known (next_frame f ∷ fs) (next_closers macros bodies s f u) (all_at place (use_tokens bodies u)) w h.holds_same h.passages none
+    (leads_next macros bodies place s fs w f u (open_leads macros bodies place holds s known (f ∷ fs) 0 [] w h none) e)
+
+-- ---- a macro is entered
+-- the region behind tokens with this effect that don't end what is left out
+abbrev pub RegionBehind : Region → Effect → Region → Type 0
+RegionBehind old e new = (kind : Kind) × ((n : ℕ) × ((old ≡ Dead kind n) × ((c d : ℕ) → e.closers ≡ bounded c → e.openers ≡ bounded d → (c ≤ n) × (new ≡ Dead kind (n - c + d)))))
+
+pub seeks_passed : (macros : List Macro) (bodies : List (List Token)) (place : Place) (holds : Bool) (s new : State) (known : List Passage) (fs : List Frame) (j n : ℕ) (w : Skim) (e : Effect) (r : Region)
+    → Seeking macros bodies place holds s known fs j (body_at place bodies n) w → s.unsupported ≡ None → e ≡ effect s.context.in_extern (get_or bodies n []) → RegionBehind s.region e r
+    → new ≡ record s { context = record { in_extern = e.in_extern; last = unwrap_or e.last s.context.last }; region = r } → Seeking macros bodies place holds new known fs 0 [] w
+seeks_passed macros bodies place holds s new known fs j n w e r h none is behind same =
+    let body = get_or bodies n [] in
+    let there = behind.1.1.1 (ahead 0 s.context.in_extern body) (opened s.context.in_extern body) (ap (λ (x : Effect). x.closers) is) (ap (λ (x : Effect). x.openers) is) in
+    let context : record { in_extern = e.in_extern; last = unwrap_or e.last s.context.last } ≡ context_behind s.context body =
+    ap (λ (x : Effect). record { in_extern = x.in_extern; last = unwrap_or x.last s.context.last }) is ∙ sym (context_is s.context body) in
+    seeks_skipped macros bodies place holds s new known fs j n w behind.0 behind.1.0 (ahead 0 s.context.in_extern body) (opened s.context.in_extern body) h none behind.1.1.0 refl refl there.0
+    (same ∙ (ap (λ (m : Context). record s { context = m; region = r }) context ∙ ap (λ (x : Region). record s { context = context_behind s.context body; region = x }) there.1))
+
+-- the entry of a macro
+pub is_entry : (s : State) (bodies : List (List Token)) (n j b least m : ℕ) (e : Effect) (entry : Entry) → e ≡ effect s.context.in_extern (get_or bodies n []) → b ≡ bounded j → least ≡ min b e.openers
+    → ((x : ℕ) → least ≡ bounded x → m ≡ x) → entry ≡ record { number = n; context = s.context; region = s.region; behind = m } → IsEntry s bodies n j entry
+is_entry s bodies n j b least m e entry is from lowest exact same =
+    let o = opened s.context.in_extern (get_or bodies n []) in
+    let openers : e.openers ≡ bounded o = ap (λ (x : Effect). x.openers) is in
+    let behind : m ≡ min j o = exact (min j o) (omega arith) in (
+      ap (λ (x : Entry). x.number) same,
+      ap (λ (x : Entry). x.context) same,
+      ap (λ (x : Entry). x.region) same,
+      ap (λ (x : Entry). x.behind) same ∙ behind,
+    )
+
+-- ---- results of calls
+pub on_ok : {T E : Type 0} (r : Result T E) (H G : Type 0) → (H → G) → OnOk r H → OnOk r G
+on_ok (Ok x) H G f h = f h
+on_ok (Err e) H G f h = h
+
+pub on_ok_thrice : {T E : Type 0} (r : Result T E) (H I J G : Type 0) → (H → I → J → G) → OnOk r H → OnOk r I → OnOk r J → OnOk r G
+on_ok_thrice (Ok x) H I J G f h i j = f h i j
+on_ok_thrice (Err e) H I J G f h i j = h
+
+pub no_word : {A B : Type 0} (f : A → B) (o : Option A) → is_some o ≡ false → option_map f o ≡ None
+no_word f None h = refl
+no_word f (Some x) h = cc
+
+-- one more passage
+pub all_put : {K : Type 0} (P : Passage → Type 0) (test : K → Bool) (es fs : List (K × Passage)) (k : K) (v : Passage) (old : Option Passage)
+    → MatchOption old (IsPermutation ((k, v) ∷ es) fs) (λ _. fs ≡ set_value test es v) → All P (values_of es) → P v → All P (values_of fs)
+all_put P test es fs k v None p a h = All-map-IsPermutation (λ e. e.1) P ((k, v) ∷ es) fs p (All-cons P v (values_of es) h a)
+all_put P test es fs k v (Some o) p a h = All-same P (values_of fs) (values_of (set_value test es v)) (ap values_of p) (All-values-set_value test P es v a h)

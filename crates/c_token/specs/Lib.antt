@@ -7,3 +7,4 @@ pub mod Tokens
 pub mod Sieving
 pub mod Tables
 pub mod Searching
+pub mod Skimming

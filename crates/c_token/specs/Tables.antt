@@ -1,5 +1,5 @@
 -- Macros by number. No public contract cites these: the proofs tie them to what is read.
-use Rattle.std.specs.Prelude.{◌≡◌, ℕ, ◌<◌, ◌≤◌, Bool, true, nat_eq, nat_lt, if◌then◌else◌, IsTrue, List, [], ◌∷◌, map, length, bytes_eq, flat_map, slice_index_or, Option, Some, None}
+use Rattle.std.specs.Prelude.{◌≡◌, ℕ, ◌-◌, ◌<◌, ◌≤◌, Bool, true, nat_eq, nat_lt, if◌then◌else◌, IsTrue, List, [], ◌∷◌, length, drop, bytes_eq, flat_map, slice_get, slice_index_or, Option, Some, None}
 use Rattle.std.specs.List.{list_all}
 use Rattle.token_list.specs.declared.Token.{Token}
 use Rattle.std.specs.HashMap.{get}
@@ -7,13 +7,14 @@ use denote.Bor.{Bor}
 use lib.Pointwise.{pointwise}
 use Rattle.c_token.specs.declared.macros.Reader.{Reader}
 use Rattle.c_token.specs.declared.macros.Macro.{Macro}
-use Rattle.c_token.specs.declared.macros.Macro.TheVariants.{Short, Long}
 use Rattle.c_token.specs.declared.macros.Use.{Use}
 use Rattle.c_token.specs.declared.macros.Use.TheVariants.{Plain, Macro as MacroUse}
+use Rattle.c_token.specs.declared.skim.Effects.{Effects}
 use Rattle.c_token.specs.declared.words.Word.{Word}
 use Rattle.c_token.specs.Bytes.{capped}
 use Rattle.c_token.specs.Macros.{Definition, Reading, bodies_of, all_at}
 use Rattle.c_token.specs.Seen.{token}
+use Rattle.c_token.specs.Skimming.{effects}
 
 -- the tokens of a use, where macros have these bodies
 abbrev pub use_tokens : List (List Token) → Use → List Token
@@ -31,19 +32,21 @@ is_below n (MacroUse k place) = nat_lt k n
 abbrev pub AllBelow : ℕ → List Use → Type 0
 AllBelow n uses = IsTrue (list_all (is_below n) uses)
 
--- a macro with this body: its tokens, or how many there are and their uses, which are of macros before it
-abbrev pub IsMacro : List (List Token) → ℕ → Macro → List Token → Type 0
-IsMacro bodies n (Short words) body = (map token words ≡ body) × (length body ≤ 1024)
-IsMacro bodies n (Long count uses) body = (all_tokens bodies uses ≡ body) × (1024 < length body) × (count ≡ capped (length body)) × AllBelow n uses
+-- the last of these uses, of none to all, have these effects
+abbrev pub AreEnds : List (List Token) → List Use → List Effects → Type 0
+AreEnds bodies uses ends = (j : ℕ) → j ≤ length uses → slice_get ends j ≡ Some (effects (all_tokens bodies (drop (length uses - j) uses)))
+
+-- a macro with this body, whose uses are of macros before it
+pub record IsMacro (bodies : List (List Token)) (n : ℕ) (m : Macro) (body : List Token) : Type 0 where
+  pub tokens : all_tokens bodies m.uses ≡ body
+  pub count : m.count ≡ capped (length body)
+  pub below : AllBelow n m.uses
+  pub ends : AreEnds bodies m.uses m.ends
 
 -- these macros have these bodies
 pub record IsTable (macros : List Macro) (bodies : List (List Token)) : Type 0 where
   pub len : length macros ≡ length bodies
   pub at : (k : ℕ) (d : Macro) → k < length macros → IsMacro bodies k (slice_index_or macros k d) (slice_index_or bodies k [])
-
-abbrev pub macro_count : Macro → ℕ
-macro_count (Short words) = capped (length words)
-macro_count (Long count uses) = count
 
 -- the number of the newest macro of a name
 abbrev pub number_of : List Definition → List ℕ → Option ℕ

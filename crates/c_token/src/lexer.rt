@@ -1,5 +1,5 @@
 //! The tokens of a text, or why it has none.
-ghost use Rattle.std.specs.Prelude.{◌≡◌, ◌≤◌, List, map, take, length, find, option_map, None, Result, Err, IfOk};
+ghost use Rattle.std.specs.Prelude.{◌≡◌, ◌≤◌, List, map, take, length, find, option_map, None, is_none, Result, Err, IfOk};
 ghost use Rattle.dg_base.specs.declared.Place.{Place};
 ghost use Rattle.token_list.specs.declared.Token.{Token};
 ghost use Rattle.c_token.specs.Bytes.{capped};
@@ -41,7 +41,7 @@ fn first_long(macros: &[Macro<'_>]) -> Option<u32>
     ensures { (bodies : List (List Token)) → IsTable macros.now bodies → result ≡ option_map (λ body. capped (length body)) (first_long bodies) }
 {
     for one in macros {
-        let count = one.count();
+        let count = one.count;
         if count > MAX_MACRO {
             return Some(count);
         }
@@ -64,16 +64,16 @@ fn limited(alloc: Global, end: Place, sieve: &Sieve<'_>) -> Result<Answer, OutOf
 fn supported(
     alloc: Global,
     end: Place,
-    macros: &[Macro<'_>],
+    long: Option<u32>,
     sieve: &Sieve<'_>,
 ) -> Result<Answer, OutOfMemory>
-    ensures { (bodies : List (List Token)) (all : List Token) → IsTable macros.now bodies → Sifts macros.now all (state sieve.now) → IfOk result (λ a. a ≡ supported end (find is_unsupported (kept all)) (first_long bodies) (kept all)) }
+    ensures { (bodies : List (List Token)) (all : List Token) → long ≡ option_map (λ body. capped (length body)) (first_long bodies) → Sifts (is_none long) all (state sieve.now) → IfOk result (λ a. a ≡ supported end (find is_unsupported (kept all)) (first_long bodies) (kept all)) }
 {
-    if let Some(found) = &sieve.unsupported {
-        let shown = found.word.shown(alloc)?;
-        return Ok(Err(Refusal::Unsupported(found.word.place, shown)));
+    if let Some(word) = &sieve.unsupported {
+        let shown = word.shown(alloc)?;
+        return Ok(Err(Refusal::Unsupported(word.place, shown)));
     }
-    if let Some(count) = first_long(macros) {
+    if let Some(count) = long {
         return Ok(Err(Refusal::Limit(LimitKind::Macro, count)));
     }
     limited(alloc, end, sieve)
@@ -83,8 +83,10 @@ fn tokens_in(alloc: Global, end: Place, parts: &[Part<'_>]) -> Result<Answer, Ou
     ensures { IfOk result (λ a. a ≡ tokens_read end (read nothing_read (map segment parts.now))) }
 {
     let reader = read(alloc, parts)?;
-    let sieve = sift(alloc, reader.macros.as_slice(), reader.uses.as_slice())?;
-    supported(alloc, end, reader.macros.as_slice(), &sieve)
+    let macros = reader.macros.as_slice();
+    let long = first_long(macros);
+    let sieve = sift(alloc, macros, reader.uses.as_slice(), long.is_none())?;
+    supported(alloc, end, long, &sieve)
 }
 
 fn refused(stuck: Stuck) -> Result<Answer, OutOfMemory>
@@ -110,9 +112,8 @@ fn read_tokens(alloc: Global, text: &[u8]) -> Result<Answer, OutOfMemory>
 /// The tokens of a text. The first of these that holds refuses it: it has more than 1048576 bytes; a byte outside comments
 /// begins no token; a word isn't supported; a macro has more than 1024 tokens; there are more than 65536 tokens.
 ///
-/// The time grows with the text and with the tokens that its macros give. A macro beyond its limit is mostly passed once,
-/// but token by token each time where an attribute's bracket stands open before it, or where it opens brackets among the
-/// parameters of `main`: there a text whose macros double again and again takes time that doubles with each of them.
+/// Time and memory grow with the text and with the limits, however many tokens its macros give. Where a macro opens or closes
+/// 2^64 brackets or more, and what is left hangs on how many, the answer is want of memory.
 pub fn tokens(alloc: Global, text: &[u8]) -> Result<Tokens, Refusal>
     ensures { Gives result (answer text.now) }
 {

@@ -7,10 +7,11 @@
 //! `extern` to its `;`, what stands between the brackets behind `main`, attributes, qualifiers (`specs/Dropping`). What is
 //! left is searched for a word that isn't supported, and counted; a few names stand for other tokens (`specs/Tokens`).
 //!
-//! The invariant: a macro that doubles again and again has more tokens than any memory holds, so a macro beyond its limit
-//! is never written out. It is kept as uses of earlier macros with its count, and the search for an unsupported word passes
-//! it at once where it was passed before from the same modes at the same place (`specs/Sieving`, `specs/Tables`,
-//! `specs/Searching`, which the proofs tie to the definitions above).
+//! The invariant: a macro that doubles again and again has more tokens than any memory holds, so no macro is written out. It
+//! is kept as uses of earlier macros with its count, and with the brackets that its last uses close and open. One pass from
+//! the front (`specs/Skimming`) then knows of each bracket behind `__attribute__` whether it is closed. It passes a macro at
+//! once where the macro doesn't end what is left out, or where it was passed before in the same region and no more of it is
+//! to be held (`specs/Sieving`, `specs/Tables`, `specs/Searching`, which the proofs tie to the definitions above).
 //!
 //! The layer above may use `lexer::tokens` with its contract. The types of tokens, and what a number's text is worth, are
 //! those of `token_list`.
@@ -23,6 +24,7 @@ mod pieces;
 mod search;
 mod segments;
 mod sieve;
+mod skim;
 mod words;
 
 pub use token_list::{Token, TokenKind, Tokens, is_unsigned, number_value};

@@ -1,15 +1,17 @@
 // Macros: from the pieces of a text to its tokens and the uses of its macros.
-ghost use Rattle.std.specs.Prelude.{◌≡◌, ◌≤◌, ◌++◌, IsTrue, List, [], ◌∷◌, map, length, IfOk, OnOk};
+ghost use Rattle.std.specs.Prelude.{◌≡◌, ◌≤◌, IsTrue, List, [], ◌∷◌, map, length, drop, IfOk, OnOk};
 ghost use Rattle.std.specs.HashMap.{get};
 ghost use Rattle.token_list.specs.declared.Token.{Token};
 ghost use Rattle.c_token.specs.Bytes.{capped};
 ghost use Rattle.c_token.specs.Seen.{segment, token};
-ghost use Rattle.c_token.specs.Macros.{Reading, bodies_of, all_at, nothing_read, replaced, add, begin, define, read_piece, read};
-ghost use Rattle.c_token.specs.Tables.{all_tokens, use_tokens, is_below, AllBelow, IsMacro, IsTable, macro_count, same_name, Reads, IsReader};
+ghost use Rattle.c_token.specs.Macros.{Reading, bodies_of, nothing_read, replaced, add, begin, define, read_piece, read};
+ghost use Rattle.c_token.specs.Skimming.{effects};
+ghost use Rattle.c_token.specs.Tables.{all_tokens, use_tokens, is_below, AllBelow, AreEnds, IsMacro, IsTable, same_name, Reads, IsReader};
 
 use crate::TokenKind;
 use crate::pieces::Piece;
 use crate::segments::Part;
+use crate::skim::{Effects, token_effects};
 use crate::words::Word;
 use dg_base::{List, OutOfMemory, Place};
 use std::alloc::Global;
@@ -33,23 +35,59 @@ pub enum Use<'a> {
     Macro(usize, Place),
 }
 
-/// A macro: its tokens, or how many there are and what they come from.
+/// A macro: how many tokens it has, and what they come from.
 #[derive(Debug, Drop)]
-pub enum Macro<'a> {
-    Short(List<Word<'a>>),
-    Long(u32, List<Use<'a>>),
+pub struct Macro<'a> {
+    /// How many tokens, up to 4294967295.
+    pub count: u32,
+    pub uses: List<Use<'a>>,
+    /// The effects of its last uses: of none, of the last, and so on to all.
+    pub ends: List<Effects>,
 }
 
-impl<'a> Macro<'a> {
-    /// How many tokens the macro has, up to 4294967295.
-    pub fn count(&self) -> u32
-        ensures { result ≡ macro_count self.now }
-    {
-        match self {
-            Macro::Short(words) => capped(words.len()),
-            Macro::Long(count, _) => *count,
+/// The effects of the tokens behind the first of these uses.
+pub fn effects_behind(uses: &[Use<'_>], ends: &[Effects], first: usize) -> Effects
+    ensures { (bodies : List (List Token)) → AreEnds bodies uses.now ends.now → first ≤ length uses.now → result ≡ effects (all_tokens bodies (drop first uses.now)) }
+{
+    match ends.get(uses.len().saturating_sub(first)) {
+        Some(effects) => *effects,
+        None => Effects::nothing(),
+    }
+}
+
+/// The effects of the tokens of a use.
+pub fn use_effects(macros: &[Macro<'_>], one: &Use<'_>) -> Effects
+    requires { IsTrue (is_below (length macros.now) one.now) }
+    ensures { (bodies : List (List Token)) → IsTable macros.now bodies → result ≡ effects (use_tokens bodies one.now) }
+{
+    match one {
+        Use::Plain(word) => token_effects(word.class()),
+        Use::Macro(number, _) => {
+            let used = &macros[*number];
+            effects_behind(used.uses.as_slice(), used.ends.as_slice(), 0)
         }
     }
+}
+
+/// The effects of the last of these uses: of none, of the last, and so on to all.
+pub fn ends_of(
+    alloc: Global,
+    macros: &[Macro<'_>],
+    uses: &[Use<'_>],
+) -> Result<List<Effects>, OutOfMemory>
+    requires { AllBelow (length macros.now) uses.now }
+    ensures { (bodies : List (List Token)) → IsTable macros.now bodies → IfOk result (λ ends. AreEnds bodies uses.now ends) }
+{
+    let mut ends = List::new(alloc);
+    let mut behind = Effects::nothing();
+    let mut first = uses.len();
+    ends.push(behind)?;
+    while first > 0 {
+        first -= 1;
+        behind = use_effects(macros, &uses[first]).before(&behind)?;
+        ends.push(behind)?;
+    }
+    Ok(ends)
 }
 
 fn use_count(macros: &[Macro<'_>], one: &Use<'_>) -> u32
@@ -58,7 +96,7 @@ fn use_count(macros: &[Macro<'_>], one: &Use<'_>) -> u32
 {
     match one {
         Use::Plain(_) => 1,
-        Use::Macro(number, _) => macros[*number].count(),
+        Use::Macro(number, _) => macros[*number].count,
     }
 }
 
@@ -73,56 +111,6 @@ fn count_of(macros: &[Macro<'_>], uses: &[Use<'_>]) -> u32
     count
 }
 
-/// Puts these tokens last, all at one place.
-fn push_all<'a>(
-    all: &mut List<Word<'a>>,
-    words: &[Word<'a>],
-    place: Place,
-) -> Result<(), OutOfMemory>
-    ensures { OnOk result (map token all.new ≡ map token all.old ++ all_at place (map token words.now)) }
-{
-    for word in words {
-        all.push(word.at(place))?;
-    }
-    Ok(())
-}
-
-/// Puts the tokens of a use last, where it is not of a long macro.
-fn push_words<'a>(
-    all: &mut List<Word<'a>>,
-    macros: &[Macro<'a>],
-    one: &Use<'a>,
-) -> Result<(), OutOfMemory>
-    requires { IsTrue (is_below (length macros.now) one.now) }
-    ensures { (bodies : List (List Token)) → IsTable macros.now bodies → length (use_tokens bodies one.now) ≤ 1024 → OnOk result (map token all.new ≡ map token all.old ++ use_tokens bodies one.now) }
-{
-    match one {
-        Use::Plain(word) => all.push(*word)?,
-        Use::Macro(number, place) => {
-            if let Macro::Short(words) = &macros[*number] {
-                push_all(all, words.as_slice(), *place)?;
-            }
-        }
-    }
-    Ok(())
-}
-
-/// All the tokens of these uses, of which none is of a long macro.
-fn words_of<'a>(
-    alloc: Global,
-    macros: &[Macro<'a>],
-    uses: &[Use<'a>],
-) -> Result<List<Word<'a>>, OutOfMemory>
-    requires { AllBelow (length macros.now) uses.now }
-    ensures { (bodies : List (List Token)) → IsTable macros.now bodies → length (all_tokens bodies uses.now) ≤ 1024 → IfOk result (λ words. map token words ≡ all_tokens bodies uses.now) }
-{
-    let mut all = List::new(alloc);
-    for one in uses {
-        push_words(&mut all, macros, one)?;
-    }
-    Ok(all)
-}
-
 fn macro_from<'a>(
     alloc: Global,
     macros: &[Macro<'a>],
@@ -132,11 +120,8 @@ fn macro_from<'a>(
     ensures { (bodies : List (List Token)) → IsTable macros.now bodies → IfOk result (λ m. IsMacro bodies (length macros.now) m (all_tokens bodies uses.entry)) }
 {
     let count = count_of(macros, uses.as_slice());
-    if count > MAX_MACRO {
-        return Ok(Macro::Long(count, uses));
-    }
-    let words = words_of(alloc, macros, uses.as_slice())?;
-    Ok(Macro::Short(words))
+    let ends = ends_of(alloc, macros, uses.as_slice())?;
+    Ok(Macro { count, uses, ends })
 }
 
 /// What is read of a text.

@@ -4,9 +4,11 @@ ghost use Rattle.std.specs.List.{list_any};
 ghost use Rattle.c_token.specs.Dropping.{says, is_dropped, is_named};
 ghost use Rattle.c_token.specs.Macros.{is_name, put_at};
 ghost use Rattle.c_token.specs.Seen.{token};
+ghost use Rattle.c_token.specs.Skimming.{class_of};
 ghost use Rattle.c_token.specs.Tokens.{is_unsupported_name, is_unsupported_number, is_unsupported, is_text_word, meant, shown};
 
 use crate::bytes::{is_space, starts};
+use crate::skim::Class;
 use crate::{Token, TokenKind};
 use dg_base::{Bytes, OutOfMemory, Place};
 use std::alloc::Global;
@@ -101,6 +103,28 @@ impl<'a> Word<'a> {
         ensures { result ≡ says text.now (token self.now) }
     {
         self.kind != TokenKind::Text && self.text == text
+    }
+
+    /// What the token is where tokens are left out.
+    #[tactic(auto, unfolding(crate::specs::Skimming::class_of))]
+    pub fn class(&self) -> Class
+        ensures { result ≡ class_of (token self.now) }
+    {
+        if self.says(b"(") {
+            Class::Open
+        } else if self.says(b")") {
+            Class::Close
+        } else if self.says(b"extern") {
+            Class::Extern
+        } else if self.says(b";") {
+            Class::Semicolon
+        } else if self.says(b"main") {
+            Class::Main
+        } else if self.says(b"__attribute__") {
+            Class::Attribute
+        } else {
+            Class::Plain
+        }
     }
 
     fn is_among(&self, words: &[&str]) -> bool

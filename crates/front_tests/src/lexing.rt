@@ -396,10 +396,58 @@ fn doubles(rt: HostRuntime) {
             "unsupported 42:21 struct",
         ),
         ("struct", "extern A40;", "macro 2048"),
+        ("x", "__attribute__ ( A40", "macro 2048"),
+        ("(", "main ( A40", "macro 2048"),
+        ("(", "__attribute__ ( A40", "macro 2048"),
+        ("main(x)", "A40\nstruct", "unsupported 43:1 struct"),
+        ("(", "main ( A40 struct", "macro 2048"),
+        (
+            "__attribute__((struct))",
+            "A40 ( struct",
+            "unsupported 42:7 struct",
+        ),
     ] {
         let Ok(text) = doubled(rt.alloc(), body, last) else {
             return assert!(rt; false);
         };
         assert!(rt; has_answer(&rt, text.as_str(), want), "at {body}");
+    }
+}
+
+// So many macros, of which each gives the two before it and a word, and uses of the last one.
+fn summed(alloc: Global, macros: u32, uses: usize) -> Result<String, OutOfMemory> {
+    let mut text = String::from_str(alloc, "#define B0 x y\n#define B1 B0 x B0\n")?;
+    for n in 2..macros {
+        let line = format!(in alloc; "#define B{n} B{} x B{}\n", n - 1, n - 2)?;
+        text.push_str(line.as_str())?;
+    }
+    let last = format!(in alloc; "B{} ", macros.saturating_sub(1))?;
+    repeated(alloc, text.as_str(), last.as_str(), uses, "")
+}
+
+// A macro's tokens are not passed again for each of its uses.
+#[test]
+fn sums(rt: HostRuntime) {
+    let Ok(text) = summed(rt.alloc(), 300, 1000) else {
+        return assert!(rt; false);
+    };
+    assert!(rt; has_answer(&rt, text.as_str(), "macro 1130"));
+}
+
+// A macro of 1024 tokens, so many of these parts behind it, and their answer.
+#[test]
+fn repeats(rt: HostRuntime) {
+    for (body, times, part, uses, want) in [
+        ("x ", 1024, "A ", 520_000, "tokens 532480000"),
+        ("__attribute__(", 512, "A ", 520_000, "tokens 266240000"),
+        ("x ", 1024, "#define B A\n", 58_000, ""),
+    ] {
+        let Ok(line) = repeated(rt.alloc(), "#define A ", body, times, "\n") else {
+            return assert!(rt; false);
+        };
+        let Ok(text) = repeated(rt.alloc(), line.as_str(), part, uses, "") else {
+            return assert!(rt; false);
+        };
+        assert!(rt; has_answer(&rt, text.as_str(), want), "at {want}");
     }
 }

@@ -1,4 +1,4 @@
-use Rattle.std.proofs.Common.{List, length, option_map, sym, ap, ◌∙◌, arith}
+use Rattle.std.proofs.Common.{List, length, option_map, refl, sym, ap, ◌∙◌, arith}
 use Rattle.std.proofs.lemmas.List.{drop_all}
 use Rattle.token_list.specs.declared.Token.{Token}
 use Rattle.c_token.specs.Bytes.{capped}
@@ -8,12 +8,12 @@ use Rattle.c_token.proofs.lexer.first_long.Goals as goal
 
 pub loop-one-preserved : goal.loop-one-preserved
 loop-one-preserved c = λ bodies table.
-    long_next c.args.macros.now bodies c.loop-one.one-index c.count-count.result c.one-item.result table c.loop-one-test.true c.one-item.is c.count-count.ensures c.if-count-gt-MAX_MACRO.false
+    long_next c.args.macros.now bodies c.loop-one.one-index c.one-item.result.count c.one-item.result table c.loop-one-test.true c.one-item.is refl c.if-count-gt-MAX_MACRO.false
     ∙ c.loop-one.invariant bodies table
 
 pub returns-then-count-gt-MAX_MACRO : goal.returns-then-count-gt-MAX_MACRO
 returns-then-count-gt-MAX_MACRO c = λ bodies table.
-    long_here c.args.macros.now bodies c.loop-one.one-index c.count-count.result c.one-item.result table c.loop-one-test.true c.one-item.is c.count-count.ensures c.if-count-gt-MAX_MACRO.true
+    long_here c.args.macros.now bodies c.loop-one.one-index c.one-item.result.count c.one-item.result table c.loop-one-test.true c.one-item.is refl c.if-count-gt-MAX_MACRO.true
     ∙ ap (option_map (λ (body : List Token). capped (length body))) (c.loop-one.invariant bodies table)
 
 pub returns : goal.returns

@@ -1,44 +1,33 @@
-use Rattle.std.proofs.Common.{◌++◌, length, reverse, None, subst, sym, ap, ◌∙◌}
-use Rattle.std.proofs.lemmas.List.{take_all}
-use Rattle.std.proofs.Math.ListN.{length-replicate}
-use Rattle.c_token.specs.Dropping.{kept}
-use Rattle.c_token.specs.Searching.{hunt, FramesFit}
-use Rattle.c_token.specs.Tables.{all_tokens}
-use Rattle.c_token.proofs.Hunting.{frames_passed, passages_passed, frames_finished, passages_finished}
-use Rattle.c_token.proofs.Sieved.{Between, below_at, between_start, between_step, sifted}
+use Rattle.std.proofs.Common.{◌≤◌, List, length, drop, reverse, refl, sym, ap, subst, arith}
+use Rattle.std.proofs.lemmas.List.{drop_all}
+use Rattle.std.specs.Map.{values_of}
+use Rattle.c_token.specs.declared.macros.Use.{Use}
+use Rattle.c_token.specs.declared.skim.Effects.{Effects}
+use Rattle.c_token.specs.Tables.{all_tokens, AreEnds}
+use Rattle.c_token.proofs.Sifted.{Between, between_start, between_step, sifted}
 use Rattle.c_token.proofs.search.sift.Goals as goal
 
-pub loop-one-init : goal.loop-one-init
-loop-one-init c =
-    let none = ap reverse c.new-frames.ensures.items in
-    record {
-      passages = ap length c.in_ok-passages.ensures ∙ length-replicate (length c.args.macros.now) None;
-      frames = none;
-      between =
-          λ bodies table. between_start c.args.macros.now bodies c.args.uses.now (length c.args.macros.now) _ c.new-sieve.ensures c.in_ok-passages.ensures none;
-    }
+pub loop-index-init : goal.loop-index-init
+loop-index-init c = record {
+  frames = ap reverse c.new-3.ensures.items;
+  between = λ bodies t. between_start bodies c.args.holds _ (all_tokens bodies c.args.uses.now) c.new.ensures (ap values_of c.new-2.ensures.empty);
+}
 
-pub finish-requires-clause-frames : goal.finish-requires-clause-frames
-finish-requires-clause-frames c =
-    frames_passed c.args.macros.now _ _ _ _ (below_at (length c.args.macros.now) c.args.uses.now c.loop-one.one-index _ c.requires.below c.loop-one-test.true)
-    (subst (FramesFit c.args.macros.now) (sym c.loop-one.invariant.frames) tt) c.in_ok-pass.ensures
-
-pub finish-requires-clause-passages : goal.finish-requires-clause-passages
-finish-requires-clause-passages c = ap length (passages_passed c.args.macros.now _ _ _ _ c.in_ok-pass.ensures) ∙ c.loop-one.invariant.passages
-
-pub loop-one-preserved : goal.loop-one-preserved
-loop-one-preserved c = record {
-  passages =
-      passages_finished c.args.macros.now _ _ _ c.in_ok-finish.ensures ∙ (ap length (passages_passed c.args.macros.now _ _ _ _ c.in_ok-pass.ensures) ∙ c.loop-one.invariant.passages);
-  frames = frames_finished c.args.macros.now _ _ _ c.in_ok-finish.ensures;
-  between =
-      λ bodies table.
-      between_step c.args.macros.now bodies c.args.uses.now c.loop-one.one-index _ _ _ _ _ table c.loop-one-test.true (c.loop-one.invariant.between bodies table) c.place_of-place.ensures
-      c.in_ok-pass.ensures c.in_ok-finish.ensures;
+pub loop-index-preserved : goal.loop-index-preserved
+loop-index-preserved c = record {
+  frames = c.in_ok-finish.ensures.frames;
+  between = λ bodies t.
+      let fits : c.in_ok-plus.field-0 ≤ length c.args.uses.now = omega (arith, c.in_ok-plus.ensures, c.loop-index-test.true) in
+      let are = subst (λ (es : List Effects). AreEnds bodies c.args.uses.now es) (sym c.as_slice.ensures) (c.in_ok-ends.ensures bodies t) in
+      let after = c.effects_behind-after.ensures bodies are fits in
+      let closed = c.in_ok-behind.ensures bodies (all_tokens bodies (drop c.in_ok-plus.field-0 c.args.uses.now)) 0 t after refl in
+      between_step c.args.macros.now bodies c.args.holds c.args.uses.now c.loop-index.index c.in_ok-plus.field-0 _ _ c.loop-index.search c.pass.new.self c.finish.new.self (all_tokens bodies c.args.uses.now) c.in_ok-behind.behind
+      c.place_of-place.ensures c.loop-index-test.true c.in_ok-plus.ensures (c.loop-index.invariant.between bodies t) c.loop-index.invariant.frames closed
+      (λ j w h s. c.in_ok-pass.ensures.seeks bodies c.args.holds j w t h s) (λ w s. c.in_ok-finish.ensures.seeks bodies c.args.holds w t s) c.in_ok-finish.ensures.frames;
 }
 
 pub returns : goal.returns
-returns c = λ bodies table.
-    let all = take_all c.loop-one.one-index c.args.uses.now c.loop-one-test.false in
-    sifted c.args.macros.now bodies (all_tokens bodies c.args.uses.now) (hunt c.loop-one.search)
-    (subst (λ us. Between c.args.macros.now bodies (λ ts. kept (all_tokens bodies us ++ ts)) (hunt c.loop-one.search)) all (c.loop-one.invariant.between bodies table))
+returns c = λ bodies t.
+    let none = drop_all c.loop-index.index c.args.uses.now c.loop-index-test.false in
+    sifted bodies c.args.holds c.loop-index.search (all_tokens bodies c.args.uses.now)
+    (subst (λ (us : List Use). Between bodies c.args.holds c.loop-index.search (all_tokens bodies us) (all_tokens bodies c.args.uses.now)) none (c.loop-index.invariant.between bodies t))
