@@ -1,2 +1,2 @@
-mod Scripts
+pub mod Scripts
 pub mod Steps

@@ -1,13 +1,13 @@
 -- What holds of every flat program.
-use Rattle.std.specs.Prelude.{◌≡◌, ℕ, ◌+◌, ◌<◌, ◌≤◌, List, [], ◌∷◌, ◌++◌, false, Some, length, map, slice_get, All}
+use Rattle.std.specs.Prelude.{◌≡◌, ℕ, ◌+◌, ◌<◌, ◌≤◌, List, [], ◌∷◌, ◌++◌, true, false, Some, length, map, slice_get, All}
 use Rattle.dg_base.specs.Values.{arity}
 use Rattle.flat_prog.specs.declared.Flat.{Flat}
 use Rattle.flat_prog.specs.declared.Instance.{Instance}
 use Rattle.flat_prog.specs.declared.FlatStep.{FlatStep}
 use Rattle.flat_prog.specs.declared.FlatAct.{FlatAct}
 use Rattle.flat_prog.specs.declared.FlatAct.TheVariants.{Set, Put, Take, Read, Write, Open, Close, Create, Join, Stop, Bad, Fail}
-use Rattle.flat_prog.specs.Sections.{Mark, Opens, Closes, Acts, Silent, AreInTurn, KeepsSections}
-use Rattle.flat_prog.specs.Runs.{made_in}
+use Rattle.flat_prog.specs.Sections.{Mark, Opens, Closes, Acts, Silent, AreInTurn, IsSection, KeepsSections}
+use Rattle.flat_prog.specs.Runs.{FlatState, Goes, steps, begins, made_in}
 
 -- the numbers of locals are among the first so many, those of cells among so many, and an operator has as many arguments as it takes
 abbrev pub ActFits : ℕ → ℕ → FlatAct → Type 0
@@ -75,6 +75,12 @@ SectionsClose i = AreInTurn false (marks_of i.steps)
 abbrev pub SectionsHold : List Instance → Instance → Type 0
 SectionsHold is i = (arg handle : ℕ) (script : List ℕ) → KeepsSections (marks_of i.steps) (made_in is i arg handle script)
 
+-- a run that comes to its end behind the last step has made the close of each section whose open it made
+abbrev pub SectionsEnd : List Instance → Instance → Type 0
+SectionsEnd is i =
+    (arg handle : ℕ) (script : List ℕ) (s : FlatState) (o c : ℕ) → steps is i.steps (begins arg handle script) ≡ Goes s → IsSection (marks_of i.steps) o c
+    → slice_get (made_in is i arg handle script) o ≡ Some true → slice_get (made_in is i arg handle script) c ≡ Some true
+
 -- ---- the whole
 
 pub record IsFlat (f : Flat) : Type 0 where
@@ -82,3 +88,4 @@ pub record IsFlat (f : Flat) : Type 0 where
   pub creates : CreatesInTurn f.instances
   pub closed : All SectionsClose f.instances
   pub held : All (SectionsHold f.instances) f.instances
+  pub ended : All (SectionsEnd f.instances) f.instances

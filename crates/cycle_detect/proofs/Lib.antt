@@ -1,0 +1,9 @@
+pub mod Counting
+pub mod Linked
+pub mod Moving
+pub mod Paths
+pub mod Searching
+pub mod Shifting
+pub mod Traces
+pub mod Visiting
+pub mod Whole

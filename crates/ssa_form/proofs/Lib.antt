@@ -1,0 +1,11 @@
+mod Acts
+mod Assembly
+mod Following
+mod Growing
+mod Marking
+mod Simulating
+mod Parting
+mod Samples
+mod Sparse
+mod Stepping
+mod Taking

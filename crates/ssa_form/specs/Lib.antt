@@ -1,0 +1,5 @@
+pub mod Parts
+pub mod Form
+pub mod Laws
+pub mod States
+pub mod Walks
