@@ -1,0 +1,10 @@
+pub mod Feeding
+pub mod Heads
+pub mod Listed
+pub mod Logs
+pub mod Parts
+pub mod Passing
+pub mod Rows
+pub mod Spelled
+pub mod Taking
+pub mod Told

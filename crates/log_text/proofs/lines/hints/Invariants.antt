@@ -1,0 +1,15 @@
+use Rattle.std.proofs.Common.{◌≡◌, true, length}
+use Rattle.line_text.specs.Words.{opens, words_behind}
+use Rattle.log_text.specs.Lines.{hints_from}
+use Rattle.log_text.proofs.Taking.{before}
+use Rattle.log_text.proofs.lines.hints.Given as goal
+
+-- what was read, with what the rest holds, is what the text holds
+abbrev pub invariant-loop-word : goal.invariant-loop-word
+invariant-loop-word l = record {
+  spaced : opens l.rest ≡ true;
+  same : before l.hints (hints_from (words_behind l.rest)) ≡ hints_from (words_behind l.text);
+}
+
+abbrev pub decreases-loop-word : goal.decreases-loop-word
+decreases-loop-word l = length l.rest

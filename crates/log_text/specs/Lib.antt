@@ -1,0 +1,9 @@
+pub mod Faults
+pub mod Fed
+pub mod Formats
+pub mod Laws
+pub mod Lines
+pub mod Machine
+pub mod Numbers
+pub mod Running
+pub mod Spelling
