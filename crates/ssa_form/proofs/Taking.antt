@@ -25,7 +25,7 @@ use Rattle.ssa_form.specs.declared.SsaAct.TheVariants.{Take, Read, Write, Open, 
 use Rattle.ssa_form.specs.Parts.{Valuation, input_of, inputs_in, inputs_in_all, terms_of, created_by, created_in, created_in_all, is_made, made_of, script_of}
 use Rattle.ssa_form.specs.Form.{IsSsaOf, IsPartOf, Agree, settled_terms, first_steps, under}
 use Rattle.ssa_form.proofs.Following.{split}
-use Rattle.ssa_form.specs.Laws.{DiffersAt, Choice, ScriptsCanBeTaken}
+use Rattle.ssa_form.specs.Laws.{DiffersAt, Choice, ScriptsCanBeTaken, DoesTheSame, EarlierPartsStay}
 
 -- ---- lists
 
@@ -202,14 +202,36 @@ module _ (f : Flat) (x : Ssa) (form : IsSsaOf f x) where
   all_from_contains P [] h = All-nil P
   all_from_contains P (t ∷ ts) h = All-cons P t ts (h t (contains_head t ts)) (all_from_contains P ts (λ u c. h u (contains_tail t u ts c)))
 
-  -- other inputs of a part leave what it begins with
+  -- other inputs of a part leave those of an earlier one
+  inputs_kept : (i k : ℕ) (p q : SsaPart) (a b : ℕ → ℕ) → slice_get x.parts i ≡ Some p → slice_get x.parts k ≡ Some q → k < i → DiffersAt (inputs_in p.steps) a b → Agree x a b (inputs_in q.steps)
+  inputs_kept i k p q a b e there less differs =
+      let is = (some_part k q there).1 in
+      all_from_contains (λ t. under a x t ≡ under b x t) (inputs_in q.steps)
+      (λ t c. let input = All-contains (λ (u : TermId). slice_get x.terms u.0 ≡ Some Input) (inputs_in q.steps) t is.inputs c in
+      input_is a t input ∙ sym (differs t.0 (λ d. other_part k i q p t less there e c d)) ∙ sym (input_is b t input))
+
+  -- and what it begins with
   begins_kept : (i : ℕ) (p : SsaPart) (a b : ℕ → ℕ) → slice_get x.parts i ≡ Some p → AreWords a → AreWords b → DiffersAt (inputs_in p.steps) a b → Agree x a b (p.start ∷ p.handle ∷ p.arg ∷ [])
-  begins_kept i p a b e wa wb differs =
-      begins_settled (suc i) i p a b (omega arith) e wa wb
-      (λ k s less there. let is = (some_part k s there).1 in
-      all_from_contains (λ t. under a x t ≡ under b x t) (inputs_in s.steps)
-      (λ t c. let input = All-contains (λ (u : TermId). slice_get x.terms u.0 ≡ Some Input) (inputs_in s.steps) t is.inputs c in
-      input_is a t input ∙ sym (differs t.0 (λ d. other_part k i s p t less there e c d)) ∙ sym (input_is b t input)))
+  begins_kept i p a b e wa wb differs = begins_settled (suc i) i p a b (omega arith) e wa wb (λ k q less there. inputs_kept i k p q a b e there less differs)
+
+  all_from_places : {A : Type 0} (P : A → Type 0) (xs : List A) → ((n : ℕ) (y : A) → slice_get xs n ≡ Some y → P y) → All P xs
+  all_from_places P [] h = All-nil P
+  all_from_places P (y ∷ ys) h = All-cons P y ys (h 0 y refl) (all_from_places P ys (λ n z e. h (suc n) z e))
+
+  -- an earlier part does the same
+  earlier_same : (i k : ℕ) (p q : SsaPart) (a b : ℕ → ℕ) → slice_get x.parts i ≡ Some p → slice_get x.parts k ≡ Some q → k < i → AreWords a → AreWords b → DiffersAt (inputs_in p.steps) a b → DoesTheSame x q a b
+  earlier_same i k p q a b e there less wa wb differs =
+      let inputs = inputs_kept i k p q a b e there less differs in
+      let begins = begins_settled (suc k) k q a b (omega arith) there wa wb (λ l s low here. inputs_kept i l p s a b e here (omega arith) differs) in
+      let is = (some_part k q there).1 in
+      record {
+        begins = begins;
+        steps = all_from_places (λ (s : SsaStep). Agree x a b (settled_terms s)) q.steps (λ n s here. is.settled a b n s wa wb here begins (take_inputs (λ t. under a x t ≡ under b x t) n q.steps inputs));
+        inputs = inputs;
+      }
+
+pub earlier_stay : EarlierPartsStay
+earlier_stay f x i p a b form e wa wb differs = (begins_kept f x form i p a b e wa wb differs, λ k q less there. earlier_same f x form i k p q a b e there less wa wb differs)
 
 -- ---- one part, one step after the other
 

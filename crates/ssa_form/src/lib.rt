@@ -5,7 +5,7 @@
 //! Walking an instance, a term stands for each local and one for "the run goes on". Each step but an assignment makes an `SsaStep`,
 //! whose guard is the term that is 1 where the step is made and 0 elsewhere. Each number that is taken or read is an input of its own.
 //! `specs/Parts` says what a part does under inputs, `specs/Form` what holds of every form (`IsSsaOf`), `specs/Laws` that inputs can be
-//! found for a script. The layers above may use these three.
+//! found for a script, part by part. The layers above may use these three.
 #![tactic(auto)]
 
 pub mod assign;
@@ -16,7 +16,7 @@ mod walk;
 
 use bv_term::{TermId, Terms};
 use dg_base::{List, Place};
-pub use laws::scripts_can_be_taken;
+pub use laws::{earlier_parts_stay, scripts_can_be_taken};
 
 /// A flat program in single assignment.
 #[derive(Debug, Drop)]
