@@ -1,0 +1,9 @@
+pub mod Adding
+pub mod Blocks
+pub mod Complete
+pub mod Entering
+pub mod Fencing
+pub mod Passing
+pub mod Sound
+pub mod Stepping
+pub mod Ways

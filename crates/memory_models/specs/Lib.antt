@@ -1,0 +1,4 @@
+pub mod Ahead
+pub mod Events
+pub mod Keeping
+pub mod Roles
