@@ -1,0 +1,3 @@
+pub mod Stating
+pub mod Whole
+pub mod Unrolled
