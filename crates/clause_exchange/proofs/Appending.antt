@@ -4,6 +4,7 @@ use Rattle.std.specs.Prelude.{slice_index, Contains, nat_lt, if◌then◌else◌
 use Rattle.std.proofs.lemmas.List.{length-map, length-set, length-append, map-set, get_or-set_same, get_or-set_other}
 use Rattle.std.proofs.lemmas.List.Elements.{Contains-append_left, Contains-append_right, Contains-append_cases}
 use Rattle.std.proofs.lemmas.Option.{get_or_from_slice_get, slice_get_within}
+use Rattle.dg_base.proofs.Lists.{get_map, get_there, place_of}
 use mathlib.Core.Option.{none}
 use mathlib.Core.List.{IsPrefix}
 use Rattle.atomic_table.specs.Table.{Me, step, keeps, Allows}
@@ -14,7 +15,6 @@ use Rattle.cnf_problem.proofs.LemmaLaws.{follows_more}
 use Rattle.cnf_problem.specs.Laws.{IsWithin}
 use Rattle.cnf_problem.proofs.Members.{contains_head, contains_tail, contains_cases, contains_nothing, contains_map, from_map}
 use Rattle.search_core.proofs.Laws.{sound_after_events}
-use Rattle.search_core.proofs.Places.{place_of}
 use Rattle.search_core.specs.declared.Entry.{Entry}
 use Rattle.search_core.specs.Core.{Worker, Event, Append, IsReached, MayHappen, after, worker, idle, known, readable, lits_of, appended}
 use Rattle.search_core.specs.Core
@@ -25,7 +25,7 @@ use Rattle.clause_exchange.specs.declared.rule.View.{View}
 use Rattle.clause_exchange.specs.Spelling.{received_of, all_received, spelled_entry, whole_within}
 use Rattle.clause_exchange.specs.Rule.{verdict_of, worker_of, core_of, IsReceived, IsKept, HoldsFor}
 use Rattle.clause_exchange.specs.Steps.{with_part, with_entry, IsAbove, Appends, MayAppend, reading, received_lits}
-use Rattle.clause_exchange.proofs.Listed.{prefix_refl, get_there, get_map}
+use Rattle.clause_exchange.proofs.Listed.{prefix_refl}
 use Rattle.clause_exchange.proofs.Keeping.{verdict_stays, row_stays, kept_after, worker_there}
 use Rattle.clause_exchange.proofs.Stepping.{step_tells, reached_after, next_small}
 

@@ -4,6 +4,7 @@ use Rattle.std.specs.Prelude.{Contains, nat_lt}
 use Rattle.std.proofs.lemmas.Bool.{cases_lt}
 use Rattle.std.proofs.lemmas.List.{get_or_past}
 use Rattle.std.proofs.lemmas.Option.{get_or_from_slice_get}
+use Rattle.dg_base.proofs.Lists.{get_map, get_nothing, place_of}
 use mathlib.Core.List.{IsPrefix}
 use Rattle.cnf_problem.proofs.LemmaLaws.{follows_more}
 use Rattle.cnf_problem.specs.Laws.{IsWithin}
@@ -13,14 +14,13 @@ use Rattle.search_core.specs.declared.Verdict.TheVariants.{Safe}
 use Rattle.search_core.specs.Core.{Worker, worker, idle}
 use Rattle.search_core.specs.CoreLaws.{IsRight, clauses_below}
 use Rattle.search_core.proofs.Laws.{sound_after_events, below_only, below_has}
-use Rattle.search_core.proofs.Places.{nothing_there, place_of}
 use Rattle.clause_exchange.specs.declared.rule.Received.{Received}
 use Rattle.clause_exchange.specs.declared.rule.Part.{Part}
 use Rattle.clause_exchange.specs.declared.rule.View.{View}
 use Rattle.clause_exchange.specs.Spelling.{spelled_entry, whole_within, all_received}
 use Rattle.clause_exchange.specs.Rule.{worker_of}
 use Rattle.clause_exchange.specs.Closing.{HasAll, IsShown, IsClosed, HasEntry, HasEmptyClause, TicketsAreIn, EntriesFollow, ReadsWereShared}
-use Rattle.clause_exchange.proofs.Listed.{get_map, prefix_trans}
+use Rattle.clause_exchange.proofs.Listed.{prefix_trans}
 
 module _ (v : View) (next : ℕ) (verdict : Option Verdict) (c : IsShown v next verdict) where
   -- an entry of a number's log is one of the core
@@ -34,7 +34,7 @@ module _ (v : View) (next : ℕ) (verdict : Option Verdict) (c : IsShown v next 
         let mine = all i inside in
         let w = (c.shown mine.0 mine.1).1 in
         (mine.0, mine.2, (mine.1, subst (λ (x : Worker). slice_get x.log k ≡ Some e) w (subst (λ n. slice_get (worker c.core n).log k ≡ Some e) (sym mine.2) h)))
-    | inr outside ↦ absurd (let q = get_or_past c.core.workers i (idle 0) (let n = c.count in omega arith) in nothing_there k e (subst (λ (x : Worker). slice_get x.log k ≡ Some e) q h))
+    | inr outside ↦ absurd (let q = get_or_past c.core.workers i (idle 0) (let n = c.count in omega arith) in get_nothing k e (subst (λ (x : Worker). slice_get x.log k ≡ Some e) q h))
   ]
 
   pub tickets_in : HasAll v → TicketsAreIn v next

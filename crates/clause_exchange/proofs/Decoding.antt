@@ -2,7 +2,8 @@
 use Rattle.std.proofs.Common.{◌≡◌, ℕ, zero, suc, ◌+◌, ◌-◌, ◌*◌, ◌/◌, ◌%◌, ◌<◌, ◌≤◌, List, [], ◌∷◌, ◌++◌, length, take, get_or, refl, ap, sym, ◌∙◌, subst, arith, Some, slice_get}
 use Rattle.std.specs.Prelude.{Contains}
 use Rattle.std.proofs.lemmas.List.{length-append}
-use Rattle.search_core.proofs.Places.{some_same, nothing_there}
+use Rattle.std.proofs.lemmas.Option.{same_Some}
+use Rattle.dg_base.proofs.Lists.{get_append_front, get_nothing}
 use Rattle.dg_base.specs.declared.Lit.{Lit}
 use Rattle.cnf_problem.proofs.Members.{contains_head, contains_tail}
 use Rattle.clause_exchange.specs.declared.rule.Received.{Received}
@@ -17,11 +18,6 @@ get_behind (x ∷ xs) ys i = ap (λ n. slice_get (x ∷ xs ++ ys) n) (later (len
   where
     later : (n i : ℕ) → suc n + i ≡ suc (n + i)
     later n i = omega arith
-
-get_front : {X : Type 0} (xs ys : List X) (i : ℕ) → i < length xs → slice_get (xs ++ ys) i ≡ slice_get xs i
-get_front [] ys i lt = absurd (omega arith)
-get_front (x ∷ xs) ys zero lt = refl
-get_front (x ∷ xs) ys (suc i) lt = get_front xs ys i (omega arith)
 
 contains_middle : {X : Type 0} (xs ys : List X) (x : X) → Contains (xs ++ x ∷ ys) x
 contains_middle [] ys x = contains_head x ys
@@ -46,7 +42,7 @@ module _ (r : RowView) (h : Received) (i : ℕ) (at : IsAt r h i) where
   -- the word is the entry's
   pub word_of_entry : (w : ℕ) → i < length (spelled_entry h) → slice_get (spelled r.known) r.loaded ≡ Some w → slice_get (spelled_entry h) i ≡ Some w
   word_of_entry w lt found =
-      sym (get_front (spelled_entry h) (spelled at.later) i lt)
+      sym (get_append_front (spelled_entry h) (spelled at.later) i lt)
       ∙ sym (get_behind (spelled at.before) (spelled_entry h ++ spelled at.later) i)
       ∙ ap (λ n. slice_get (spelled at.before ++ (spelled_entry h ++ spelled at.later)) n) (sym at.place)
       ∙ ap (λ ws. slice_get ws r.loaded) (sym words)
@@ -69,16 +65,16 @@ no_lit = record { 0 = 0 }
 -- the word spells the two literals at its place
 pub lits_told : (lits : List Lit) (i w : ℕ) → ((l : Lit) → Contains lits l → l.0 < 4294967296) → slice_get (spelled_lits lits) i ≡ Some w
     → (w % 4294967296 ≡ (get_or lits (2 * i) no_lit).0) × (2 * i + 1 < length lits → w / 4294967296 ≡ (get_or lits (2 * i + 1) no_lit).0) × (w / 4294967296 < 4294967296)
-lits_told [] i w codes found = absurd (nothing_there i w found)
+lits_told [] i w codes found = absurd (get_nothing i w found)
 lits_told (x ∷ []) zero w codes found =
     let small = codes x (contains_head x []) in
-    let is : x.0 ≡ w = some_same x.0 w found in
+    let is : x.0 ≡ w = same_Some x.0 w found in
     (one_code x.0 w small is, (λ lt. absurd (omega arith)), omega arith)
-lits_told (x ∷ []) (suc i) w codes found = absurd (nothing_there i w found)
+lits_told (x ∷ []) (suc i) w codes found = absurd (get_nothing i w found)
 lits_told (x ∷ y ∷ rest) zero w codes found =
     let small = codes x (contains_head x (y ∷ rest)) in
     let small2 = codes y (contains_tail x y (y ∷ rest) (contains_head y rest)) in
-    let t = two_codes x.0 y.0 w small (some_same (x.0 + 4294967296 * y.0) w found) in
+    let t = two_codes x.0 y.0 w small (same_Some (x.0 + 4294967296 * y.0) w found) in
     (t.0, (λ lt. t.1), (let q = t.1 in omega arith))
 lits_told (x ∷ y ∷ rest) (suc i) w codes found =
     let r = lits_told rest i w (λ l c. codes l (contains_tail x l (y ∷ rest) (contains_tail y l rest c))) found in (

@@ -2,14 +2,14 @@
 use Rattle.std.proofs.Common.{◌≡◌, ℕ, zero, suc, ◌+◌, ◌*◌, ◌<◌, ◌≤◌, false, List, [], ◌∷◌, map, length, replicate, refl, ap, sym, ◌∙◌, subst, arith, Some, None, slice_get}
 use Rattle.std.specs.Prelude.{slice_index, Contains}
 use Rattle.std.proofs.lemmas.List.{length-replicate, length-map}
-use Rattle.std.proofs.lemmas.Option.{slice_get_within}
+use Rattle.std.proofs.lemmas.Option.{slice_get_within, same_Some, none-some}
+use Rattle.dg_base.proofs.Lists.{get_nothing, place_of, contains_place}
 use mathlib.Core.Option.{some, some-injective, some-ne-none}
 use lib.ListN.{get_elem?}
 use Rattle.atomic_table.specs.Table.{Final, Seen}
 use Rattle.cnf_problem.specs.declared.problem.Lemma.{Lemma}
 use Rattle.cnf_problem.specs.declared.problem.Problem.{Problem}
 use Rattle.cnf_problem.proofs.Members.{contains_nothing}
-use Rattle.search_core.proofs.Places.{some_same, none_some, nothing_there, place_of, contains_place}
 use Rattle.search_core.specs.declared.Verdict.TheVariants.{Safe, Unsafe}
 use Rattle.search_core.specs.Core.{Worker, IsReached, worker, idle, start}
 use Rattle.search_core.specs.Core
@@ -26,8 +26,8 @@ map_same f zero x = refl
 map_same f (suc n) x = ap (λ l. f x ∷ l) (map_same f n x)
 
 pub there_same : {X : Type 0} (n k : ℕ) (x y : X) → slice_get (replicate n x) k ≡ Some y → y ≡ x
-there_same zero k x y h = absurd (nothing_there k y h)
-there_same (suc n) zero x y h = sym (some_same x y h)
+there_same zero k x y h = absurd (get_nothing k y h)
+there_same (suc n) zero x y h = sym (same_Some x y h)
 there_same (suc n) (suc k) x y h = there_same n k x y h
 
 pub blank_length : (n from count : ℕ) → length (blank_parts n from count) ≡ count
@@ -36,8 +36,8 @@ blank_length n from (suc count) = ap suc (blank_length n (suc from) count)
 
 -- what stands at a place
 pub blank_there : (n from count i : ℕ) (x : Part) → slice_get (blank_parts n from count) i ≡ Some x → x ≡ blank_part n (from + i)
-blank_there n from zero i x h = absurd (nothing_there i x h)
-blank_there n from (suc count) zero x h = sym (some_same (blank_part n from) x h) ∙ ap (blank_part n) (omega arith)
+blank_there n from zero i x h = absurd (get_nothing i x h)
+blank_there n from (suc count) zero x h = sym (same_Some (blank_part n from) x h) ∙ ap (blank_part n) (omega arith)
 blank_there n from (suc count) (suc i) x h = blank_there n (suc from) count i x h ∙ ap (blank_part n) (omega arith)
 
 blank_workers : (n from count : ℕ) → map worker_of (blank_parts n from count) ≡ replicate count (idle n)
@@ -89,7 +89,7 @@ module _ (p : Problem) (n share_words : ℕ) (v : View) (words : List ℕ)
     few = few;
     verdict = record {
       small = (let e = zeros 1 in omega arith);
-      seen = λ k part v at is. absurd (let e = ap (λ (z : Part). z.seen) (sym (blank_there n 0 n k part at)) in none_some v (e ∙ is));
+      seen = λ k part v at is. absurd (let e = ap (λ (z : Part). z.seen) (sym (blank_there n 0 n k part at)) in none-some v (e ∙ is));
       offered = λ k part v at is. absurd (contains_nothing v (subst (λ vs. Contains vs v) (ap (λ (z : Part). z.offers) (blank_there n 0 n k part at)) is));
       unsafe = λ two. absurd (let e = zeros 1 in omega arith);
     };
@@ -112,12 +112,12 @@ module _ (p : Problem) (n share_words : ℕ) (v : View) (words : List ℕ)
 
 none_zero : (word : ℕ) → verdict_of word ≡ None → word ≡ 0
 none_zero zero e = refl
-none_zero (suc zero) e = absurd (none_some Safe (sym e))
-none_zero (suc (suc n)) e = absurd (none_some Unsafe (sym e))
+none_zero (suc zero) e = absurd (none-some Safe (sym e))
+none_zero (suc (suc n)) e = absurd (none-some Unsafe (sym e))
 
 unsafe_two : (word : ℕ) → word < 3 → verdict_of word ≡ Some Unsafe → word ≡ 2
-unsafe_two zero lt e = absurd (none_some Unsafe e)
-unsafe_two (suc zero) lt e = absurd (let q : Safe ≡ Unsafe = some_same Safe Unsafe e in cc)
+unsafe_two zero lt e = absurd (none-some Unsafe e)
+unsafe_two (suc zero) lt e = absurd (let q : Safe ≡ Unsafe = same_Some Safe Unsafe e in cc)
 unsafe_two (suc (suc n)) lt e = omega arith
 
 -- at the end
@@ -137,7 +137,7 @@ closed_with p n share_words id v words slots live (s, seen, same_words, homes, v
           found = ap (λ ws. verdict_of (slice_index ws 1)) same_words;
           count = length-map r.parts worker_of ∙ r.kept.numbers ∙ sym t.1;
           shown = λ x c. ((let a = slice_get_within r.parts x.number x (at x c) in let b = r.kept.numbers in let e = t.1 in omega arith), worker_there s.words r.parts x.number x (at x c));
-          one = λ a b ca cb e. some_same a b (sym (at a ca) ∙ subst (λ m. slice_get r.parts m ≡ Some b) (sym e) (at b cb));
+          one = λ a b ca cb e. same_Some a b (sym (at a ca) ∙ subst (λ m. slice_get r.parts m ≡ Some b) (sym e) (at b cb));
         };
         seen = λ x u c is. ap (λ ws. verdict_of (slice_index ws 1)) (sym same_words) ∙ r.kept.verdict.seen x.number x u (at x c) is;
         offered = λ x u c is none. r.kept.verdict.offered x.number x u (at x c) is (none_zero (slice_index s.words 1) (ap (λ ws. verdict_of (slice_index ws 1)) same_words ∙ none));
@@ -145,7 +145,7 @@ closed_with p n share_words id v words slots live (s, seen, same_words, homes, v
             let two = unsafe_two (slice_index s.words 1) r.kept.verdict.small (ap (λ ws. verdict_of (slice_index ws 1)) same_words ∙ stands) in
             let f = r.kept.verdict.unsafe two in
             let mine = all f.0 (let a = slice_get_within r.parts f.0 f.1 f.2 in let b = r.kept.numbers in let e = t.1 in omega arith) in
-            let same : f.1 ≡ mine.0 = some_same f.1 mine.0 (sym f.2 ∙ subst (λ m. slice_get r.parts m ≡ Some mine.0) mine.2 (at mine.0 mine.1)) in
+            let same : f.1 ≡ mine.0 = same_Some f.1 mine.0 (sym f.2 ∙ subst (λ m. slice_get r.parts m ≡ Some mine.0) mine.2 (at mine.0 mine.1)) in
             (mine.0, mine.1, subst (λ (z : Part). Contains z.offers Unsafe) same f.3);
         received = λ a b q ca cb row. r.kept.received a.number b.number a b q (at a ca) (at b cb) row;
       },

@@ -6,10 +6,10 @@ use Rattle.std.proofs.lemmas.Bool.Decides.{nat_tests}
 use Rattle.std.proofs.lemmas.List.{length-replicate}
 use Rattle.std.proofs.lemmas.List.Elements.{Contains-append_left, Contains-append_right, Contains-append_cases}
 use Rattle.std.proofs.lemmas.Option.{slice_get_within}
+use Rattle.dg_base.proofs.Lists.{contains_from_filter, place_of}
 use Rattle.cnf_problem.specs.declared.problem.Problem.{Problem}
 use Rattle.cnf_problem.proofs.Members.{contains_head, contains_tail}
 use Rattle.cnf_problem.proofs.ChainLaws.{contains_filter}
-use Rattle.search_core.proofs.Places.{place_of}
 use Rattle.clause_exchange.specs.declared.rule.RowView.{RowView}
 use Rattle.clause_exchange.specs.declared.rule.Part.{Part}
 use Rattle.clause_exchange.specs.declared.rule.View.{View}
@@ -19,7 +19,6 @@ use Rattle.clause_exchange.specs.Splits.{with_parts, below, from_on}
 use Rattle.clause_exchange.specs.Counting.{Owns, AreNew, CountsAs, TakesOver}
 use Rattle.clause_exchange.specs.Seats.{IsTied, IsTiedPart, IsTiedRow, IsBlank, HasNumber, cell}
 use Rattle.clause_exchange.proofs.Opening.{there_same, blank_there, blank_length}
-use Rattle.clause_exchange.proofs.Splitting.{from_filter}
 
 pub blank_listed : (n from count i : ℕ) → i < count → Contains (blank_parts n from count) (blank_part n (from + i))
 blank_listed n from zero i lt = absurd (omega arith)
@@ -104,7 +103,7 @@ module _ (v : View) (number : ℕ) (c : Counters) (tied : IsTied v number c) whe
       → Owns d least → IsTied (with_parts v (below at v.parts)) least d
   tied_below at least d writes looks loads kept gone behind among = tied_some (below at v.parts) least d writes looks loads
       (λ x h.
-      let f = from_filter (λ (q : Part). nat_lt q.number at) v.parts x h in
+      let f = contains_from_filter (λ (q : Part). nat_lt q.number at) v.parts x h in
       let t = f.1 in
       (f.0, kept x.number (grind (arith, nat_tests)) ∙ (tied.parts x f.0).own))
       (λ k own. elim (cases_lt k at) [
@@ -123,7 +122,7 @@ module _ (v : View) (number : ℕ) (c : Counters) (tied : IsTied v number c) whe
       → Owns d least → IsTied (with_parts v (from_on at v.parts)) least d
   tied_from at least d writes looks loads gone kept among = tied_some (from_on at v.parts) least d writes looks loads
       (λ x h.
-      let f = from_filter (λ (q : Part). not (nat_lt q.number at)) v.parts x h in
+      let f = contains_from_filter (λ (q : Part). not (nat_lt q.number at)) v.parts x h in
       let t = f.1 in
       (f.0, kept x.number (grind (arith, nat_tests)) ∙ (tied.parts x f.0).own))
       (λ k own. elim (cases_lt k at) [

@@ -7,6 +7,8 @@ use mathlib.Core.Option.{some, none, Option as Found}
 use lib.ListN.{get_elem?}
 use prog.Atomic.{either}
 use Rattle.std.proofs.Common.{eqb}
+use Rattle.std.proofs.lemmas.Option.{same_Some}
+use Rattle.dg_base.proofs.Lists.{get_from_map}
 use Rattle.atomic_table.specs.Table.{State, Me, step, keeps, Allows}
 use Rattle.atomic_table.proofs.Lists.{exchanged}
 use Rattle.cnf_problem.specs.declared.problem.Lemma.{Lemma}
@@ -14,12 +16,10 @@ use Rattle.cnf_problem.specs.declared.problem.Problem.{Problem}
 use Rattle.search_core.specs.Core.{Worker, Event, IsReached, MayHappen, AllMayHappen, start, run, after, idle, worker}
 use Rattle.search_core.specs.Core
 use Rattle.search_core.proofs.Laws.{sound_after_events}
-use Rattle.search_core.proofs.Places.{some_same}
 use Rattle.clause_exchange.specs.declared.rule.Part.{Part}
 use Rattle.clause_exchange.specs.declared.rule.View.{View}
 use Rattle.clause_exchange.specs.Rule.{worker_of, core_of, IsKept, HoldsFor}
 use Rattle.clause_exchange.specs.Steps.{IsOne, with_part, Announces, Cuts, Agrees}
-use Rattle.clause_exchange.proofs.Listed.{get_in_map}
 use Rattle.clause_exchange.proofs.Sharing.{shared_after, shared_along, has_one}
 
 -- what is kept, in the words of a view
@@ -75,7 +75,7 @@ sum_small f c (x ∷ xs) h =
 pub next_small : (p : Problem) (n share_words : ℕ) (words : List ℕ) (parts : List Part) → IsKept p n share_words words parts → slice_index words 0 ≤ 16000016
 next_small p n share_words words parts kept =
     let total = (sound_after_events p n (core_of words parts) kept.reached).total in
-    let bound = sum_small (λ (w : Worker). length w.log) 1000001 (map worker_of parts) (λ i w at. let r = get_in_map worker_of parts i w at in let short = (kept.rows i r.0 r.1).short in let e = ap (λ (x : Worker). length x.log) r.2 in omega arith) in
+    let bound = sum_small (λ (w : Worker). length w.log) 1000001 (map worker_of parts) (λ i w at. let r = get_from_map worker_of parts i w at in let short = (kept.rows i r.0 r.1).short in let e = ap (λ (x : Worker). length x.log) r.2 in omega arith) in
     let few = kept.few in
     let a = kept.numbers in
     let b = length-map parts worker_of in
@@ -122,7 +122,7 @@ agrees p n share_words slots id me live s h homes there small = (
   keeps,
   tt,
   view_holds p n share_words s (set s.words 0 (slice_index s.words 0)) s.homes id me.0 me.0 h there live refl refl refl live refl (λ below. set-get_or s.words 0 0),
-  (refl, refl, λ a b ca cb e. some_same a b (sym (at a ca) ∙ subst (λ m. slice_get h.parts m ≡ Some b) (sym e) (at b cb))),
+  (refl, refl, λ a b ca cb e. same_Some a b (sym (at a ca) ∙ subst (λ m. slice_get h.parts m ≡ Some b) (sym e) (at b cb))),
 )
   where
     at : (x : Part) → Contains me.0.parts x → slice_get h.parts x.number ≡ Some x

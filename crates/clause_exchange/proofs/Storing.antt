@@ -4,12 +4,12 @@ use Rattle.std.specs.Prelude.{slice_index, Contains}
 use Rattle.std.proofs.lemmas.Bool.{cases_lt}
 use Rattle.std.proofs.lemmas.List.{length-map, length-set, map-append, map-set, append_assoc, append-nil, get_or-set_same, get_or-set_other, length_push}
 use Rattle.std.proofs.lemmas.List.Elements.{Contains-push_cases}
-use Rattle.std.proofs.lemmas.Option.{slice_get_within}
+use Rattle.std.proofs.lemmas.Option.{slice_get_within, same_Some}
+use Rattle.dg_base.proofs.Lists.{place_of}
 use mathlib.Core.Option.{none}
 use Rattle.atomic_table.specs.Table.{Me, step, keeps, Allows}
 use Rattle.cnf_problem.specs.declared.problem.Lemma.{Lemma}
 use Rattle.cnf_problem.specs.declared.problem.Problem.{Problem}
-use Rattle.search_core.proofs.Places.{some_same, place_of}
 use Rattle.search_core.proofs.Laws.{sound_after_events}
 use Rattle.search_core.specs.declared.Entry.{Entry}
 use Rattle.search_core.specs.Core.{Worker, Event, Share, IsReached, MayHappen, after, worker, idle, has_shared}
@@ -171,7 +171,7 @@ module _ (p : Problem) (v : View) (part : Part) (e : Entry) (words : List ℕ) (
       let here = subst (λ (x : Worker). slice_get x.log a.0 ≡ Some e) (sym w) a.1 in
       let here2 = subst (λ (x : Worker). slice_get x.log b.0 ≡ Some f) (sym w) b.1 in
       let place = (tickets.once part.number part.number a.0 b.0 e f here here2 ticket).1 in
-      some_same e f (sym a.1 ∙ subst (λ m. slice_get part.log m ≡ Some f) (sym place) b.1)
+      same_Some e f (sym a.1 ∙ subst (λ m. slice_get part.log m ≡ Some f) (sym place) b.1)
 
 -- the store of the own count is allowed
 pub shares : (p : Problem) (n share_words slots id : ℕ) (me : Me Lemma View) (part : Part) (e : Entry) → MayShare me.0 part e

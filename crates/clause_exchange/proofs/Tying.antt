@@ -4,6 +4,7 @@ use Rattle.std.specs.Prelude.{Contains, nat_lt, if◌then◌else◌, slice_index
 use Rattle.std.proofs.lemmas.Bool.{lt-ltb, le-ltb}
 use Rattle.std.proofs.lemmas.List.{length-append, length-set, append_assoc, append-nil, map-append, get_or-set_same}
 use Rattle.std.proofs.lemmas.Option.{get_or_from_slice_get}
+use Rattle.dg_base.proofs.Lists.{get_set_cases, get_there}
 use mathlib.Core.List.{IsPrefix}
 use Rattle.cnf_problem.proofs.Members.{contains_head, contains_cases, contains_nothing}
 use Rattle.search_core.specs.declared.Entry.{Entry}
@@ -18,7 +19,7 @@ use Rattle.clause_exchange.specs.Steps.{mine, row_of, with_part, with_shared, wi
 use Rattle.clause_exchange.specs.Rule.{blank_row, row_words}
 use Rattle.clause_exchange.specs.Seats.{IsTied, IsTiedPart, IsTiedRow, IsWhole, cell, written}
 use Rattle.clause_exchange.specs.Calls.{HasOne}
-use Rattle.clause_exchange.proofs.Listed.{spelled_append, at_write, get_there}
+use Rattle.clause_exchange.proofs.Listed.{spelled_append}
 use Rattle.clause_exchange.proofs.Words.{lits_size}
 
 -- the entry that begins behind so many words
@@ -129,8 +130,8 @@ module _ (v : View) (number : ℕ) (c : Counters) (tied : IsTied v number c) (on
         written_is = ap (λ ws. slice_index ws (mine v).number) writes ∙ h.written_is;
         fits = h.fits;
         wide = length-set (mine v).rows row q ∙ h.wide;
-        blank = λ x at. elim (at_write (mine v).rows row (mine v).number q x at) [ inl e ↦ absurd (apart (sym e.0)) | inr e ↦ h.blank x e.1 ];
-        rows = λ j x at. elim (at_write (mine v).rows row j q x at) [
+        blank = λ x at. elim (get_set_cases (mine v).rows row (mine v).number q x at) [ inl e ↦ absurd (apart (sym e.0)) | inr e ↦ h.blank x e.1 ];
+        rows = λ j x at. elim (get_set_cases (mine v).rows row j q x at) [
           | inl e ↦
               let place : cell number row ≡ cell (mine v).number j = (let n = here in let m = e.0 in omega arith) in
               subst (λ z. IsTiedRow v.share_words (slice_index d.looked (cell (mine v).number j)) (slice_index d.loaded (cell (mine v).number j)) z) (sym e.1)

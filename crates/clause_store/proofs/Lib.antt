@@ -4,7 +4,6 @@ pub mod Cuts
 pub mod Twins
 pub mod Visits
 pub mod TrailLaws
-pub mod Places
 pub mod Known
 pub mod Turns
 pub mod Laying

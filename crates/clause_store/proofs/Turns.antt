@@ -4,6 +4,7 @@ use Rattle.std.specs.Prelude.{Contains, slice_get, Some, None}
 use Rattle.std.proofs.lemmas.List.{map-append, length-map}
 use Rattle.std.proofs.lemmas.Bool.{cases_lt}
 use Rattle.std.proofs.lemmas.Option.{slice_get_within}
+use Rattle.dg_base.proofs.Lists.{get_append_front}
 use Rattle.dg_base.specs.declared.Lit.{Lit}
 use Rattle.cnf_problem.specs.Literals.{negated, var}
 use Rattle.cnf_problem.specs.Chains.{IsFixpoint}
@@ -17,7 +18,6 @@ use Rattle.clause_store.specs.Visiting.{IsFree, IsAt, IsOwing, IsVisiting}
 use Rattle.clause_store.specs.Stores.{AreWatched, IsUndone}
 use Rattle.trail_state.proofs.Cuts.{up_to_front, up_to-append, level-forced}
 use Rattle.clause_store.proofs.Watches.{fixpoint_from_quiet}
-use Rattle.clause_store.proofs.Places.{get-append_left}
 use Rattle.clause_store.proofs.TrailLaws.{place_of, well_free, undone_lower}
 use Rattle.clause_store.proofs.Visits.{ends_linked, ends_watched, quiet_at_end}
 
@@ -44,7 +44,7 @@ late_on_trail t p well lower there n lt c =
     let i = place_of (true_lits (up_to n t.entries)) p c in
     let r = up_to_front n t.entries in
     let parts : true_lits t.entries ≡ true_lits (up_to n t.entries) ++ true_lits r.0 = ap true_lits (sym r.1) ∙ map-append lit_of (up_to n t.entries) r.0 in
-    let at_i : slice_get (true_lits t.entries) i.0 ≡ Some p = rw parts (get-append_left (true_lits (up_to n t.entries)) (true_lits r.0) i.0 i.1 ∙ i.2) in
+    let at_i : slice_get (true_lits t.entries) i.0 ≡ Some p = rw parts (get_append_front (true_lits (up_to n t.entries)) (true_lits r.0) i.0 i.1 ∙ i.2) in
     let same = well.once i.0 t.taken p p at_i there refl in
     let low = lower n lt in
     let short = i.1 in

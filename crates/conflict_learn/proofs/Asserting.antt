@@ -1,6 +1,7 @@
 -- The clause of the marked literals is asserting, once one literal of the last level is left.
 use Rattle.std.proofs.Common.{◌≡◌, ℕ, ◌<◌, ◌≤◌, inl, inr, Bool, List, ◌∷◌, map, ap, sym, ◌∙◌, subst, arith}
 use Rattle.std.specs.Prelude.{Contains, slice_get, Some}
+use Rattle.dg_base.proofs.Lists.{place_of, contains_place, contains_from_filter}
 use Rattle.dg_base.specs.declared.Lit.{Lit}
 use Rattle.cnf_problem.specs.Literals.{var, negated}
 use Rattle.cnf_problem.specs.Chains.{IsUnassigned}
@@ -12,7 +13,6 @@ use Rattle.trail_state.specs.Forcing.{AreForced, reasons}
 use Rattle.conflict_learn.specs.Learning.{IsAsserting, IsLearnt}
 use Rattle.conflict_learn.specs.Marking.{is_marked, is_last, marked_lits, last_count, AreMarks, MarksFollow, IsCollected}
 use Rattle.conflict_learn.proofs.Counting.{one_passes, only_one}
-use Rattle.conflict_learn.proofs.Places.{at_place, place_of, from_filter}
 use Rattle.conflict_learn.proofs.Levels.{Once, in_up_to, from_up_to}
 use Rattle.conflict_learn.proofs.Marks.{last_parts, last_from, marked_negated}
 use Rattle.conflict_learn.proofs.Resolving.{without_ground}
@@ -49,7 +49,7 @@ unique_from es marks lits back h one collected =
     let parts = last_parts marks es r.1 r.3 in
     record {
       literal = negated r.1;
-      listed = collected.all r.1 (at_place (true_lits es) r.0 r.1 r.2) parts.0;
+      listed = collected.all r.1 (contains_place (true_lits es) r.0 r.1 r.2) parts.0;
       of_last = ap (λ v. level_of v es) (var-negated r.1) ∙ parts.1;
       alone = λ m c top.
           let q = collected.marked m c in
@@ -101,7 +101,7 @@ learnt_from t clauses conflict marks count lits back h forced are one follows co
     let u = unique_from t.entries marks lits back h (sym are.counted ∙ one) collected in
     record {
       follows = conflict_more (conflict ∷ reasons clauses t.entries) (conflict ∷ reasons clauses t.entries) (marked_lits marks t.entries) (map negated lits) (λ x c. c)
-          (λ x c. let r = from_filter (is_marked marks) (true_lits t.entries) x c in subst (λ z. Contains (map negated lits) z) (negated-negated x) (contains_map negated lits (negated x) (collected.all x r.0 r.1)))
+          (λ x c. let r = contains_from_filter (is_marked marks) (true_lits t.entries) x c in subst (λ z. Contains (map negated lits) z) (negated-negated x) (contains_map negated lits (negated x) (collected.all x r.0 r.1)))
           (without_ground clauses t.entries conflict marks forced follows);
       refuted = λ m c. (collected.marked m c).0;
       lower = collected.lower;

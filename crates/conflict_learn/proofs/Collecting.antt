@@ -4,13 +4,14 @@ use Rattle.std.specs.Prelude.{Contains, slice_get, Some}
 use Rattle.std.proofs.lemmas.Bool.{cases_eq, false≢true}
 use Rattle.std.proofs.lemmas.List.{length-map}
 use Rattle.std.proofs.lemmas.List.Elements.{Contains-push_cases, Contains-append_left, Contains-append_right}
+use Rattle.std.proofs.lemmas.Option.{slice_get_within}
+use Rattle.dg_base.proofs.Lists.{place_of, contains_place, get_push_cases}
 use Rattle.dg_base.specs.declared.Lit.{Lit}
 use Rattle.cnf_problem.specs.Literals.{var, negated}
 use Rattle.cnf_problem.proofs.Members.{contains_head, contains_nothing}
 use Rattle.cnf_problem.proofs.LiteralLaws.{var-negated, negated-negated}
 use Rattle.trail_state.specs.Trails.{Assigned, lit_of, true_lits, level, level_of}
 use Rattle.conflict_learn.specs.Marking.{is_marked, IsCollected}
-use Rattle.conflict_learn.proofs.Places.{place_of, at_place, place_within, place_in_push}
 use Rattle.conflict_learn.proofs.Levels.{Once}
 use Rattle.conflict_learn.proofs.Marks.{marked_negated}
 
@@ -27,7 +28,7 @@ pub record CollectedFrom (es : List Assigned) (marks : List Bool) (n : ℕ) (lit
 pub collected_none : (es : List Assigned) (marks : List Bool) (n : ℕ) → n ≡ length es → 0 < level es → CollectedFrom es marks n [] 0
 collected_none es marks n e above = record {
   marked = λ l c. absurd (contains_nothing l c);
-  all = λ k l le p m. absurd (let r = place_within (true_lits es) k l p in let s = length-map es lit_of in omega arith);
+  all = λ k l le p m. absurd (let r = slice_get_within (true_lits es) k l p in let s = length-map es lit_of in omega arith);
   lower = above;
   bound = λ l c. absurd (contains_nothing l c);
   reached = inl refl;
@@ -37,7 +38,7 @@ collected_none es marks n e above = record {
 -- from its beginning on they are all
 pub collected_all : (es : List Assigned) (marks : List Bool) (n : ℕ) (lits : List Lit) (back : ℕ) → n ≡ 0 → CollectedFrom es marks n lits back → IsCollected es marks lits back
 collected_all es marks n lits back e h = record {
-  marked = λ l c. let r = h.marked l c in (at_place (true_lits es) r.0 (negated l) r.2, r.3);
+  marked = λ l c. let r = h.marked l c in (contains_place (true_lits es) r.0 (negated l) r.2, r.3);
   all = λ l c m. let p = place_of (true_lits es) l c in h.all p.0 l (omega arith) p.1 m;
   lower = h.lower;
   bound = h.bound;
@@ -66,13 +67,13 @@ collected_other es marks i n l lits back e p f h = record {
 -- one more literal, of a variable that the others don't have
 once_push : (xs : List Lit) (x : Lit) → Once xs → ((y : Lit) → Contains xs y → var y ≡ var x → ⊥) → Once (xs ++ x ∷ [])
 once_push xs x h new = record {
-  once = λ i j a b p q e. elim (place_in_push xs x i a p) [
-    | inl pa ↦ elim (place_in_push xs x j b q) [
+  once = λ i j a b p q e. elim (get_push_cases xs x i a p) [
+    | inl pa ↦ elim (get_push_cases xs x j b q) [
       | inl pb ↦ h.once i j a b pa pb e
-      | inr last ↦ absurd (new a (at_place xs i a pa) (e ∙ ap var last.1))
+      | inr last ↦ absurd (new a (contains_place xs i a pa) (e ∙ ap var last.1))
     ]
-    | inr first ↦ elim (place_in_push xs x j b q) [
-      | inl pb ↦ absurd (new b (at_place xs j b pb) (sym e ∙ ap var first.1))
+    | inr first ↦ elim (get_push_cases xs x j b q) [
+      | inl pb ↦ absurd (new b (contains_place xs j b pb) (sym e ∙ ap var first.1))
       | inr last ↦ omega (arith, first.0, last.0)
     ]
   ];

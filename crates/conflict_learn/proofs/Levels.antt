@@ -2,11 +2,11 @@
 use Rattle.std.proofs.Common.{◌≡◌, ℕ, zero, suc, ◌<◌, ◌≤◌, inl, inr, List, [], ◌∷◌, refl, ap, sym, subst, arith}
 use Rattle.std.specs.Prelude.{Some, Contains, slice_get}
 use Rattle.std.proofs.lemmas.Bool.{eq-eqb, ne_eqb, cases_eq}
+use Rattle.dg_base.proofs.Lists.{place_of, get_map}
 use Rattle.dg_base.specs.declared.Lit.{Lit}
 use Rattle.cnf_problem.specs.Literals.{var}
 use Rattle.cnf_problem.proofs.Members.{contains_head, contains_tail, contains_cases, contains_nothing}
 use Rattle.trail_state.specs.Trails.{Assigned, Decided, Forced, lit_of, reason, true_lits, level, up_to, level_of, reason_of}
-use Rattle.conflict_learn.proofs.Places.{place_of, map_at_place}
 
 -- no two places have one variable
 pub record Once (lits : List Lit) : Type 0 where
@@ -113,7 +113,7 @@ decided_above (Forced m id ∷ es) (suc k) l h e =
     omega (arith, decided_above es k l (once_tail m (true_lits es) h) e, level_of-forced_other (var l) id m es (once_head m (true_lits es) k l h (decided_true es k l e)))
   where
     decided_true : (es : List Assigned) (k : ℕ) (l : Lit) → slice_get es k ≡ Some (Decided l) → slice_get (true_lits es) k ≡ Some l
-    decided_true es k l e = map_at_place lit_of es k (Decided l) e
+    decided_true es k l e = get_map lit_of es k (Decided l) e
 decided_above (Decided m ∷ es) k l h e =
     elim (cases_eq (var m) (var l)) [
       | inl same ↦ omega (arith, level_of-decided_same (var l) m es same)
@@ -147,11 +147,11 @@ older_lt (Forced x id ∷ es) zero (suc k) m l h p q lt =
 older_lt (Decided x ∷ es) zero (suc k) m l h p q lt =
     let e : x ≡ m = cc in
     let t = once_tail x (true_lits es) h in
-    omega (arith, level_of-decided_same (var m) x es (ap var e), level_of-decided_other (var l) x es (once_head x (true_lits es) k l h (map_at_place lit_of es k (Decided l) q)), decided_above es k l t q)
+    omega (arith, level_of-decided_same (var m) x es (ap var e), level_of-decided_other (var l) x es (once_head x (true_lits es) k l h (get_map lit_of es k (Decided l) q)), decided_above es k l t q)
 older_lt (Forced x id ∷ es) (suc j) (suc k) m l h p q lt =
-    omega (arith, older_lt es j k m l (once_tail x (true_lits es) h) p q (omega arith), level_of-forced_other (var m) id x es (once_head x (true_lits es) j m h p), level_of-forced_other (var l) id x es (once_head x (true_lits es) k l h (map_at_place lit_of es k (Decided l) q)))
+    omega (arith, older_lt es j k m l (once_tail x (true_lits es) h) p q (omega arith), level_of-forced_other (var m) id x es (once_head x (true_lits es) j m h p), level_of-forced_other (var l) id x es (once_head x (true_lits es) k l h (get_map lit_of es k (Decided l) q)))
 older_lt (Decided x ∷ es) (suc j) (suc k) m l h p q lt =
-    omega (arith, older_lt es j k m l (once_tail x (true_lits es) h) p q (omega arith), level_of-decided_other (var m) x es (once_head x (true_lits es) j m h p), level_of-decided_other (var l) x es (once_head x (true_lits es) k l h (map_at_place lit_of es k (Decided l) q)))
+    omega (arith, older_lt es j k m l (once_tail x (true_lits es) h) p q (omega arith), level_of-decided_other (var m) x es (once_head x (true_lits es) j m h p), level_of-decided_other (var l) x es (once_head x (true_lits es) k l h (get_map lit_of es k (Decided l) q)))
 
 -- the reason of the literal at a place
 pub reason_at : (es : List Assigned) (k : ℕ) (a : Assigned) → Once (true_lits es) → slice_get es k ≡ Some a → reason_of (var (lit_of a)) es ≡ reason a
@@ -161,5 +161,5 @@ reason_at (x ∷ es) zero a h e =
     let t = eq-eqb (var (lit_of x)) (var (lit_of a)) (ap (λ z. var (lit_of z)) f) in
     rw t (ap reason f)
 reason_at (x ∷ es) (suc k) a h e =
-    let t = ne_eqb (var (lit_of x)) (var (lit_of a)) (once_head (lit_of x) (true_lits es) k (lit_of a) h (map_at_place lit_of es k a e)) in
+    let t = ne_eqb (var (lit_of x)) (var (lit_of a)) (once_head (lit_of x) (true_lits es) k (lit_of a) h (get_map lit_of es k a e)) in
     rw t (reason_at es k a (once_tail (lit_of x) (true_lits es) h) e)

@@ -3,6 +3,7 @@ use Rattle.std.proofs.Common.{◌≡◌, ℕ, zero, suc, ◌<◌, ◌⊎◌, inl
 use Rattle.std.specs.Prelude.{Contains, slice_get, Some, option_and_then}
 use Rattle.std.proofs.lemmas.Bool.{cases_eq}
 use Rattle.std.proofs.lemmas.List.Elements.{Contains-append_left, Contains-append_right, Contains-append_cases}
+use Rattle.dg_base.proofs.Lists.{contains_place, get_map, contains_from_filter}
 use Rattle.dg_base.specs.declared.Lit.{Lit}
 use Rattle.cnf_problem.specs.Literals.{var, negated}
 use Rattle.cnf_problem.specs.Chains.{IsFalse, AllFalse, OthersFalse, ReachesConflict, step, done}
@@ -13,7 +14,7 @@ use Rattle.cnf_problem.proofs.LiteralLaws.{var-negated}
 use Rattle.trail_state.specs.Trails.{Assigned, Decided, Forced, lit_of, reason, true_lits, level_of, up_to}
 use Rattle.trail_state.specs.Forcing.{Forces, AreForced, reasons}
 use Rattle.conflict_learn.specs.Marking.{is_marked, marked_lits, AddsMarks, MarksFollow, StillFollow}
-use Rattle.conflict_learn.proofs.Places.{at_place, place_in_front, from_filter, in_filter_map, map_at_place}
+use Rattle.conflict_learn.proofs.Places.{place_in_front, in_filter_map}
 use Rattle.conflict_learn.proofs.Levels.{Once, once_same, in_up_to}
 use Rattle.conflict_learn.proofs.Marks.{marked_negated}
 
@@ -58,7 +59,7 @@ pub resolvent_follows : (clauses : List (List Lit)) (es : List Assigned) (clause
     → Once (true_lits es) → AreForced clauses es → slice_get es k ≡ Some (Forced l id) → slice_get clauses id ≡ Some clause
     → AddsMarks es before added clause → ((m : Lit) → (var m ≡ var l → ⊥) → is_marked after m ≡ is_marked added m) → StillFollow clauses es before after
 resolvent_follows clauses es clause before added after k id l h forced e named adds kept conflict follows =
-    let here = map_at_place lit_of es k (Forced l id) e in
+    let here = get_map lit_of es k (Forced l id) e in
     let f = forced k id l e in
     let n = f.named in
     let same : f.clause ≡ clause = cc in
@@ -69,14 +70,14 @@ resolvent_follows clauses es clause before added after k id l h forced e named a
       | inr front ↦
           let p = place_in_front lit_of es k (negated m) front in
           let apart : var m ≡ var l → ⊥ = λ w. (let r = h.once p.0 k (negated m) l p.2 here (var-negated m ∙ w) in omega arith) in
-          inr (false_in_start es after m h (at_place (true_lits es) p.0 (negated m) p.2) (other m apart (adds.all m c)))
+          inr (false_in_start es after m h (contains_place (true_lits es) p.0 (negated m) p.2) (other m apart (adds.all m c)))
     ])
     (λ x c. elim (Contains-append_cases (marked_lits before es) (true_lits (up_to 0 es)) x c) [
       | inr ground ↦ contains_tail l x (marked_lits after es ++ true_lits (up_to 0 es)) (Contains-append_right (marked_lits after es) (true_lits (up_to 0 es)) x ground)
       | inl marked ↦
-          let r = from_filter (is_marked before) (true_lits es) x marked in
+          let r = contains_from_filter (is_marked before) (true_lits es) x marked in
           elim (cases_eq (var x) (var l)) [
-            | inl w ↦ contains_first x l (marked_lits after es ++ true_lits (up_to 0 es)) (once_same (true_lits es) x l h r.0 (at_place (true_lits es) k l here) w)
+            | inl w ↦ contains_first x l (marked_lits after es ++ true_lits (up_to 0 es)) (once_same (true_lits es) x l h r.0 (contains_place (true_lits es) k l here) w)
             | inr n ↦ contains_tail l x (marked_lits after es ++ true_lits (up_to 0 es)) (in_start es after x h r.0 (other x n (inl (adds.stay x r.1))))
           ]
     ])
@@ -120,7 +121,7 @@ without_entry clauses es conflict start n id l e f follows =
           elim (cases_eq p.0 n) [
             | inl w ↦
                 let at : slice_get (true_lits es) n ≡ Some x = subst (λ k. slice_get (true_lits es) k ≡ Some x) w p.2 in
-                let here = map_at_place lit_of es n (Forced l id) e in
+                let here = get_map lit_of es n (Forced l id) e in
                 let s : x ≡ l = cc in
                 contains_first x l (start ++ true_lits (take n es)) s
             | inr o ↦ contains_tail l x (start ++ true_lits (take n es)) (Contains-append_right start (true_lits (take n es)) x (in_front lit_of es n p.0 x p.2 (omega arith)))

@@ -3,6 +3,8 @@ use Rattle.std.proofs.Common.{◌≡◌, ℕ, suc, ◌<◌, inl, inr, Bool, true
 use Rattle.std.specs.Prelude.{Contains, slice_get, Some, take}
 use Rattle.std.proofs.lemmas.Bool.{cases_eq, false≢true}
 use Rattle.std.proofs.lemmas.List.{length-map, get_or_read}
+use Rattle.std.proofs.lemmas.Option.{slice_get_within}
+use Rattle.dg_base.proofs.Lists.{place_of, contains_place, get_from_map}
 use Rattle.dg_base.specs.declared.Lit.{Lit}
 use Rattle.cnf_problem.specs.Literals.{var, negated}
 use Rattle.cnf_problem.proofs.LiteralLaws.{var-negated}
@@ -10,7 +12,7 @@ use Rattle.trail_state.specs.Trails.{TrailView, Assigned, Decided, Forced, lit_o
 use Rattle.cnf_problem.specs.Chains.{AllFalse}
 use Rattle.trail_state.specs.Forcing.{Forces, AreForced}
 use Rattle.conflict_learn.specs.Marking.{is_marked, is_last, AreMarks, AddsMarks, LastBelow}
-use Rattle.conflict_learn.proofs.Places.{place_of, at_place, place_within, place_of_map, place_in_front}
+use Rattle.conflict_learn.proofs.Places.{place_in_front}
 use Rattle.conflict_learn.proofs.Levels.{Once, level_of-le-level, older_le, older_lt, reason_at}
 use Rattle.conflict_learn.proofs.Counting.{one_passes, another_passes, passes_counted}
 use Rattle.conflict_learn.proofs.Marks.{marked_alike, marked_negated, last_parts, last_from}
@@ -27,7 +29,7 @@ walk_goes_on t marks count n are below some =
 -- at the start of the walk all are below
 pub all_below : (t : TrailView) (marks : List Bool) (n : ℕ) → n ≡ length t.entries → LastBelow t.entries marks n
 all_below t marks n e k l p last =
-    let r = place_within (true_lits t.entries) k l p in
+    let r = slice_get_within (true_lits t.entries) k l p in
     let s = length-map t.entries lit_of in
     omega arith
 
@@ -61,7 +63,7 @@ met_at clauses t marks count n l w are forced below several p marked =
     let apart = r.4 in
     let older : r.0 < n = elim (cases_eq r.0 n) [ inl e ↦ absurd (apart e) | inr o ↦ omega arith ] in
     let top = (last_parts marks t.entries r.1 r.3).1 in
-    let e = place_of_map lit_of t.entries n l p in
+    let e = get_from_map lit_of t.entries n l p in
     by_entry e.0 r.0 r.1 e.1 e.2 r.2 older top
   where
     by_entry : (a : Assigned) (j : ℕ) (m : Lit) → slice_get t.entries n ≡ Some a → lit_of a ≡ l → slice_get (true_lits t.entries) j ≡ Some m → j < n → level_of (var m) t.entries ≡ level t.entries → Met clauses t marks n l
@@ -89,7 +91,7 @@ reason_assigned clauses es clause n id l f named c m cm =
     let same : clause ≡ f.clause = cc in
     elim (f.others_false m (subst (λ x. Contains x m) same cm)) [
       | inl e ↦ (l, c, ap var (sym e))
-      | inr front ↦ let p = place_in_front lit_of es n (negated m) front in (negated m, at_place (true_lits es) p.0 (negated m) p.2, var-negated m)
+      | inr front ↦ let p = place_in_front lit_of es n (negated m) front in (negated m, contains_place (true_lits es) p.0 (negated m) p.2, var-negated m)
     ]
 
 -- once it is resolved away, all that are left stand below it
@@ -127,7 +129,7 @@ resolved_below clauses t clause before added after n id l h below p f named adds
 -- what a read of the mark of a true literal's variable says
 pub read_mark : (t : TrailView) (marks : List Bool) (count n v : ℕ) (l : Lit) (b : Bool) → IsWell t → AreMarks t marks count → slice_get (true_lits t.entries) n ≡ Some l → v ≡ var l → b ≡ get_or marks v b → is_marked marks l ≡ b
 read_mark t marks count n v l b w are p e read =
-    let lt : v < length marks = rw e (has_mark t marks count (var l) w are (l, at_place (true_lits t.entries) n l p, refl)) in
+    let lt : v < length marks = rw e (has_mark t marks count (var l) w are (l, contains_place (true_lits t.entries) n l p, refl)) in
     rw (← e) (sym (get_or_read marks v b lt read false))
 
 -- what is known of a marked literal, by that read

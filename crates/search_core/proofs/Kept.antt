@@ -5,6 +5,7 @@ use Rattle.std.proofs.lemmas.List.Sums.{sum_by-set}
 use Rattle.std.proofs.lemmas.Bool.{cases_lt}
 use Rattle.std.proofs.lemmas.List.{length_push}
 use Rattle.std.proofs.lemmas.List.Elements.{Contains-append_cases}
+use Rattle.dg_base.proofs.Lists.{get_append_left, place_of, get_push_cases, get_push_last}
 use Rattle.dg_base.specs.declared.Lit.{Lit}
 use Rattle.cnf_problem.specs.declared.problem.Lemma.{Lemma}
 use Rattle.cnf_problem.specs.declared.problem.Problem.{Problem}
@@ -16,7 +17,7 @@ use Rattle.search_core.specs.declared.Verdict.TheVariants.{Safe, Unsafe}
 use Rattle.search_core.specs.declared.Entry.{Entry}
 use Rattle.search_core.specs.Core.{Worker, State, Append, idle, worker, readable, known, lits_of, appended, after}
 use Rattle.search_core.specs.CoreLaws.{IsEntry}
-use Rattle.search_core.proofs.Places.{place_of, push_cases, push_stays, push_last, after_set}
+use Rattle.search_core.proofs.Places.{after_set}
 
 -- the clauses have those of all entries with lower tickets
 abbrev pub HasLower : State → ℕ → List (List Lit) → Type 0
@@ -108,7 +109,7 @@ module _ (p : Problem) (s : State) (i : ℕ) (lemma : Lemma) (inside : i < lengt
       elim (after_set s.workers i (appended (worker s i) s.next lemma) j (idle 0) inside) [
         | inl r ↦
             let g = subst (λ (w : Worker). slice_get w.log k ≡ Some e) r.1 h in
-            elim (push_cases (worker s i).log new_entry k e g) [
+            elim (get_push_cases (worker s i).log new_entry k e g) [
               | inl old ↦ inl (subst (λ n. IsEntry s n k e) (sym r.0) old)
               | inr q ↦ inr (r.0, q.0, q.1)
             ]
@@ -118,14 +119,14 @@ module _ (p : Problem) (s : State) (i : ℕ) (lemma : Lemma) (inside : i < lengt
   pub entry_stays : (j k : ℕ) (e : Entry) → IsEntry s j k e → IsEntry next_state j k e
   entry_stays j k e h =
       elim (after_set s.workers i (appended (worker s i) s.next lemma) j (idle 0) inside) [
-        | inl r ↦ subst (λ (w : Worker). slice_get w.log k ≡ Some e) (sym r.1) (push_stays (worker s i).log new_entry k e (subst (λ n. IsEntry s n k e) r.0 h))
+        | inl r ↦ subst (λ (w : Worker). slice_get w.log k ≡ Some e) (sym r.1) (get_append_left (worker s i).log (new_entry ∷ []) k e (subst (λ n. IsEntry s n k e) r.0 h))
         | inr r ↦ subst (λ (w : Worker). slice_get w.log k ≡ Some e) (sym r.1) h
       ]
 
   pub entry_new : IsEntry next_state i (length (worker s i).log) new_entry
   entry_new =
       elim (after_set s.workers i (appended (worker s i) s.next lemma) i (idle 0) inside) [
-        | inl r ↦ subst (λ (w : Worker). slice_get w.log (length (worker s i).log) ≡ Some new_entry) (sym r.1) (push_last (worker s i).log new_entry)
+        | inl r ↦ subst (λ (w : Worker). slice_get w.log (length (worker s i).log) ≡ Some new_entry) (sym r.1) (get_push_last (worker s i).log new_entry)
         | inr r ↦ absurd (r.0 refl)
       ]
 

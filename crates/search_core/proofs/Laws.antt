@@ -4,6 +4,8 @@ use Rattle.std.specs.Prelude.{Contains, nat_lt, sum_by}
 use Rattle.std.proofs.lemmas.Bool.Decides.{nat_tests}
 use Rattle.std.proofs.lemmas.List.{append_assoc, append-nil, length_push}
 use Rattle.std.proofs.lemmas.List.Elements.{Contains-append_cases, Contains-append_left, Contains-append_right}
+use Rattle.std.proofs.lemmas.Option.{same_Some}
+use Rattle.dg_base.proofs.Lists.{get_there, get_nothing, contains_place, get_push_cases}
 use Rattle.dg_base.specs.declared.Lit.{Lit}
 use Rattle.cnf_problem.specs.declared.problem.Problem.{Problem}
 use Rattle.cnf_problem.specs.Literals.{IsSatisfied}
@@ -15,24 +17,23 @@ use Rattle.search_core.specs.declared.Verdict.TheVariants.{Safe, Unsafe}
 use Rattle.search_core.specs.declared.Entry.{Entry}
 use Rattle.search_core.specs.Core.{Worker, State, Append, Share, Read, Offer, idle, worker, known, lits_of, first_of, after, IsReached}
 use Rattle.search_core.specs.CoreLaws.{IsEntry, lower_of, clauses_below, TicketsOnce, IsRight, IsRefuted, IsMerged, IsSound, SoundAfterEvents, SoundIsKept, NoOppositeOffers, VerdictStays}
-use Rattle.search_core.proofs.Places.{some_same, nothing_there, contains_place, push_cases}
 use Rattle.search_core.proofs.Kept.{LogsKept, Kept, Stands, known_entry}
 use Rattle.search_core.proofs.Runs.{kept_after, kept_reached}
 
 -- the clauses below a ticket have those of each entry of a log below it
 pub lower_has : (t : ℕ) (es : List Entry) (k : ℕ) (e : Entry) → slice_get es k ≡ Some e → e.ticket < t → Contains (lower_of t es) e.lemma.lits
-lower_has t [] k e h lt = absurd (nothing_there k e h)
+lower_has t [] k e h lt = absurd (get_nothing k e h)
 lower_has t (x ∷ xs) k e h lt = by_test (nat_lt x.ticket t) refl k h (λ m g. lower_has t xs m e g lt)
   where
     by_test : (b : Bool) → nat_lt x.ticket t ≡ b → (k : ℕ) → slice_get (x ∷ xs) k ≡ Some e → ((m : ℕ) → slice_get xs m ≡ Some e → Contains (lower_of t xs) e.lemma.lits) → Contains (lower_of t (x ∷ xs)) e.lemma.lits
-    by_test true q zero h later = rw q (subst (λ (z : Entry). Contains (x.lemma.lits ∷ lower_of t xs) z.lemma.lits) (some_same x e h) (contains_head x.lemma.lits (lower_of t xs)))
+    by_test true q zero h later = rw q (subst (λ (z : Entry). Contains (x.lemma.lits ∷ lower_of t xs) z.lemma.lits) (same_Some x e h) (contains_head x.lemma.lits (lower_of t xs)))
     by_test true q (suc k) h later = rw q (contains_tail x.lemma.lits e.lemma.lits (lower_of t xs) (later k h))
-    by_test false q zero h later = let s = ap (λ (z : Entry). z.ticket) (some_same x e h) in absurd (grind (arith, nat_tests))
+    by_test false q zero h later = let s = ap (λ (z : Entry). z.ticket) (same_Some x e h) in absurd (grind (arith, nat_tests))
     by_test false q (suc k) h later = rw q (later k h)
 
 -- and of each log
 pub below_has : (t : ℕ) (ws : List Worker) (i k : ℕ) (e : Entry) → slice_get (get_or ws i (idle 0)).log k ≡ Some e → e.ticket < t → Contains (clauses_below t ws) e.lemma.lits
-below_has t [] i k e h lt = absurd (nothing_there k e h)
+below_has t [] i k e h lt = absurd (get_nothing k e h)
 below_has t (w ∷ ws) zero k e h lt = Contains-append_left (lower_of t w.log) (clauses_below t ws) e.lemma.lits (lower_has t w.log k e h lt)
 below_has t (w ∷ ws) (suc i) k e h lt = Contains-append_right (lower_of t w.log) (clauses_below t ws) e.lemma.lits (below_has t ws i k e h lt)
 
@@ -104,16 +105,10 @@ in_turn_from_each p cs (x ∷ xs) h = (
 
 -- a place in the first part of a list
 pub taken_place : {X : Type 0} (xs : List X) (n k : ℕ) (x : X) → k < n → slice_get xs k ≡ Some x → slice_get (take n xs) k ≡ Some x
-taken_place [] n k x lt h = absurd (nothing_there k x h)
+taken_place [] n k x lt h = absurd (get_nothing k x h)
 taken_place (y ∷ ys) zero k x lt h = absurd (omega arith)
 taken_place (y ∷ ys) (suc n) zero x lt h = h
 taken_place (y ∷ ys) (suc n) (suc k) x lt h = taken_place ys n k x (omega arith) h
-
--- each place within a list has an element
-pub has_place : {X : Type 0} (xs : List X) (k : ℕ) → k < length xs → (x : X) × (slice_get xs k ≡ Some x)
-has_place [] k lt = absurd (omega arith)
-has_place (y ∷ ys) zero lt = (y, refl)
-has_place (y ∷ ys) (suc k) lt = has_place ys k (omega arith)
 
 -- entries in the order of their tickets follow in turn
 pub good_from_merged : (p : Problem) (s : State) → LogsKept p s → (merged : List Entry) → IsMerged s merged → FollowInTurn p [] (map (λ (e : Entry). e.lemma) merged)
@@ -123,22 +118,22 @@ good_from_merged p s kept merged m =
     kept.follows r.1.0 r.1.1 e r.1.2 (lits_of (take k merged)) (λ j l f g lt.
     let below = kept.below j l f g in
     let low : f.ticket < k = (let q = r.0 in omega arith) in
-    let q = has_place merged f.ticket (rw m.all below) in
+    let q = get_there merged f.ticket (rw m.all below) in
     let u = m.each f.ticket q.0 q.1 in
     let place = kept.once u.1.0 j u.1.1 l q.0 f u.1.2 g u.0 in
-    let same : q.0 ≡ f = some_same q.0 f (sym u.1.2 ∙ ap (λ n. slice_get (worker s n).log u.1.1) place.0 ∙ ap (λ n. slice_get (worker s j).log n) place.1 ∙ g) in
+    let same : q.0 ≡ f = same_Some q.0 f (sym u.1.2 ∙ ap (λ n. slice_get (worker s n).log u.1.1) place.0 ∙ ap (λ n. slice_get (worker s j).log n) place.1 ∙ g) in
     subst (λ (z : Entry). Contains (lits_of (take k merged)) z.lemma.lits) same
     (contains_map (λ (e : Entry). e.lemma.lits) (take k merged) q.0 (contains_place (take k merged) f.ticket q.0 (taken_place merged k f.ticket q.0 low q.1)))))
 
 -- the merged list of the first tickets
 pub first_merged : (p : Problem) (s : State) → LogsKept p s → (n : ℕ) → n ≤ s.next → (merged : List Entry) × (length merged ≡ n) × ((k : ℕ) (e : Entry) → slice_get merged k ≡ Some e → (e.ticket ≡ k) × ((i : ℕ) × (m : ℕ) × IsEntry s i m e))
-first_merged p s kept zero le = ([], refl, λ k e h. absurd (nothing_there k e h))
+first_merged p s kept zero le = ([], refl, λ k e h. absurd (get_nothing k e h))
 first_merged p s kept (suc n) le =
     let r = first_merged p s kept n (omega arith) in
     let f = kept.found n (omega arith) in (
       r.0 ++ f.2 ∷ [],
       (let q = length_push r.0 f.2 in let l = r.1 in omega arith),
-      λ k e h. elim (push_cases r.0 f.2 k e h) [
+      λ k e h. elim (get_push_cases r.0 f.2 k e h) [
         | inl old ↦ r.2 k e old
         | inr q ↦ (
           (let t = ap (λ (z : Entry). z.ticket) q.1 in let l = r.1 in let b = q.0 in let c = f.4 in omega arith),

@@ -6,6 +6,7 @@ use Rattle.std.proofs.lemmas.List.Folds.{sum_by-replicate}
 use Rattle.std.proofs.lemmas.Bool.{cases_eq, cases_lt}
 use Rattle.std.proofs.lemmas.List.{length-replicate, get_or-replicate, get_or_past, get_or-set_same, get_or-set_other, set_past, length_push}
 use Rattle.std.proofs.lemmas.List.Elements.{Contains-push_cases, Contains-append_left}
+use Rattle.dg_base.proofs.Lists.{get_nothing}
 use Rattle.cnf_problem.specs.declared.problem.Lemma.{Lemma}
 use Rattle.cnf_problem.specs.declared.problem.Problem.{Problem}
 use Rattle.cnf_problem.proofs.Members.{contains_nothing, from_map}
@@ -14,7 +15,7 @@ use Rattle.search_core.specs.declared.Verdict.TheVariants.{Safe, Unsafe}
 use Rattle.search_core.specs.declared.Entry.{Entry}
 use Rattle.search_core.specs.Core.{Worker, State, Event, Append, Share, Read, Offer, idle, start, worker, known, MayHappen, with_worker, first_of, appended, has_shared, has_read, after, run, AllMayHappen, IsReached}
 use Rattle.search_core.specs.CoreLaws.{IsEntry}
-use Rattle.search_core.proofs.Places.{after_set, nothing_there}
+use Rattle.search_core.proofs.Places.{after_set}
 use Rattle.search_core.proofs.Kept.{Stands, Kept, SameLogs, entry_forth, logs_along, stands_along, known_entry, entry_stays, logs_append}
 
 -- a worker that keeps its log
@@ -215,7 +216,7 @@ kept_start p n = record {
     times_none n = omega arith
 
     none : (i k : ℕ) (e : Entry) → IsEntry (start n) i k e → ⊥
-    none i k e h = nothing_there k e (subst (λ log. slice_get log k ≡ Some e) ((idle_at_start n i).0) h)
+    none i k e h = get_nothing k e (subst (λ log. slice_get log k ≡ Some e) ((idle_at_start n i).0) h)
 
 -- what is reached from the start
 pub kept_reached : (p : Problem) (n : ℕ) (s : State) → IsReached p n s → Kept p s

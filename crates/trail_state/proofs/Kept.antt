@@ -6,6 +6,7 @@ use Rattle.std.proofs.lemmas.List.{length_push, map-append}
 use Rattle.std.proofs.lemmas.List.Elements.{Contains-append_left, Contains-push, Contains-push_cases}
 use Rattle.std.proofs.lemmas.Option.{slice_get_within}
 use Rattle.std.proofs.lemmas.Bool.{cases_eq}
+use Rattle.dg_base.proofs.Lists.{get_append_front, get_push_last, contains_place}
 use Rattle.dg_base.specs.declared.Lit.{Lit}
 use Rattle.cnf_problem.specs.Literals.{var, is_positive, IsOver}
 use Rattle.cnf_problem.specs.Chains.{IsUnassigned}
@@ -15,22 +16,6 @@ use Rattle.trail_state.specs.Slots.{value_of, AreParts}
 use Rattle.trail_state.specs.Heaps.{IsFull, IsWithout, IsReordered}
 use Rattle.trail_state.proofs.Cuts.{level-append}
 use Rattle.trail_state.proofs.Assigning.{value_cases, value_of-push_old, value_of-push_new, value_of-here, level_of-push_old, level_of-push_new, level_of-here, reason_of-push_old, reason_of-push_new, reason_of-here, value_of-there, none_missing, some_present, unassigned_none}
-
--- an element of a longer list
-slice_get-left : {X : Type 0} (xs ys : List X) (i : ℕ) → i < length xs → slice_get (xs ++ ys) i ≡ slice_get xs i
-slice_get-left [] ys i h = absurd (omega arith)
-slice_get-left (x ∷ xs) ys zero h = refl
-slice_get-left (x ∷ xs) ys (suc i) h = slice_get-left xs ys i (omega arith)
-
-slice_get-end : {X : Type 0} (xs : List X) (y : X) → slice_get (xs ++ y ∷ []) (length xs) ≡ Some y
-slice_get-end [] y = refl
-slice_get-end (x ∷ xs) y = slice_get-end xs y
-
--- an element that is at a place is contained
-at_place : {X : Type 0} (xs : List X) (i : ℕ) (x : X) → slice_get xs i ≡ Some x → Contains xs x
-at_place [] i x e = absurd cc
-at_place (y ∷ ys) zero x e = (0, omega arith, cc)
-at_place (y ∷ ys) (suc i) x e = let r = at_place ys i x e in (suc r.0, omega arith, r.2)
 
 -- the literals with one more entry
 push_lits : (es : List Assigned) (a : Assigned) → true_lits (es ++ a ∷ []) ≡ true_lits es ++ lit_of a ∷ []
@@ -54,21 +39,21 @@ well_push vars taken es a w over free room = record {
           | inl f ↦ e ∙ sym f
           | inr ne ↦
               let hj : j < length (true_lits es) = omega arith in
-              let x_is : Some (lit_of a) ≡ Some x = sym (slice_get-end (true_lits es) (lit_of a)) ∙ (ap (λ z. slice_get (true_lits es ++ lit_of a ∷ []) z) (sym e) ∙ gi) in
+              let x_is : Some (lit_of a) ≡ Some x = sym (get_push_last (true_lits es) (lit_of a)) ∙ (ap (λ z. slice_get (true_lits es ++ lit_of a ∷ []) z) (sym e) ∙ gi) in
               let x_same : lit_of a ≡ x = cc in
-              absurd (none_missing (var (lit_of a)) es free y (at_place (true_lits es) j y (sym (slice_get-left (true_lits es) (lit_of a ∷ []) j hj) ∙ gj)) (sym same ∙ ap (λ (z : Lit). var z) (sym x_same)))
+              absurd (none_missing (var (lit_of a)) es free y (contains_place (true_lits es) j y (sym (get_append_front (true_lits es) (lit_of a ∷ []) j hj) ∙ gj)) (sym same ∙ ap (λ (z : Lit). var z) (sym x_same)))
         ]
         | inr ne ↦
             let hi : i < length (true_lits es) = omega arith in
-            let old_i : slice_get (true_lits es) i ≡ Some x = sym (slice_get-left (true_lits es) (lit_of a ∷ []) i hi) ∙ gi in
+            let old_i : slice_get (true_lits es) i ≡ Some x = sym (get_append_front (true_lits es) (lit_of a ∷ []) i hi) ∙ gi in
             elim (cases_eq j (length (true_lits es))) [
               | inl f ↦
-                  let y_is : Some (lit_of a) ≡ Some y = sym (slice_get-end (true_lits es) (lit_of a)) ∙ (ap (λ z. slice_get (true_lits es ++ lit_of a ∷ []) z) (sym f) ∙ gj) in
+                  let y_is : Some (lit_of a) ≡ Some y = sym (get_push_last (true_lits es) (lit_of a)) ∙ (ap (λ z. slice_get (true_lits es ++ lit_of a ∷ []) z) (sym f) ∙ gj) in
                   let y_same : lit_of a ≡ y = cc in
-                  absurd (none_missing (var (lit_of a)) es free x (at_place (true_lits es) i x old_i) (same ∙ ap (λ (z : Lit). var z) (sym y_same)))
+                  absurd (none_missing (var (lit_of a)) es free x (contains_place (true_lits es) i x old_i) (same ∙ ap (λ (z : Lit). var z) (sym y_same)))
               | inr nf ↦
                   let hj : j < length (true_lits es) = omega arith in
-                  w.once i j x y old_i (sym (slice_get-left (true_lits es) (lit_of a ∷ []) j hj) ∙ gj) same
+                  w.once i j x y old_i (sym (get_append_front (true_lits es) (lit_of a ∷ []) j hj) ∙ gj) same
             ]
       ];
   few = omega (arith, length_push es a);
@@ -81,7 +66,7 @@ well_pop vars taken es a w = record {
   range = λ l m. w.range l (subst (λ z. Contains z l) (sym (push_lits es a)) (Contains-append_left (true_lits es) (lit_of a ∷ []) l m));
   once = λ i j x y ei ej same.
       let up : (k : ℕ) (z : Lit) → slice_get (true_lits es) k ≡ Some z → slice_get (true_lits (es ++ a ∷ [])) k ≡ Some z =
-      λ k z e. ap (λ s. slice_get s k) (push_lits es a) ∙ (slice_get-left (true_lits es) (lit_of a ∷ []) k (slice_get_within (true_lits es) k z e) ∙ e) in
+      λ k z e. ap (λ s. slice_get s k) (push_lits es a) ∙ (get_append_front (true_lits es) (lit_of a ∷ []) k (slice_get_within (true_lits es) k z e) ∙ e) in
       w.once i j x y (up i x ei) (up j y ej) same;
   few = let f = w.few in omega (arith, length_push es a);
   taken = omega arith;
@@ -95,8 +80,8 @@ last_free vars taken es a w =
       | inr some ↦
           let p = some_present (var (lit_of a)) es some.0 some.1 in
           let k = place_of (true_lits es) p.0 p.1 in
-          let at_k : slice_get (true_lits (es ++ a ∷ [])) k.0 ≡ Some p.0 = ap (λ s. slice_get s k.0) (push_lits es a) ∙ (slice_get-left (true_lits es) (lit_of a ∷ []) k.0 k.1 ∙ k.2) in
-          let at_n : slice_get (true_lits (es ++ a ∷ [])) (length (true_lits es)) ≡ Some (lit_of a) = ap (λ s. slice_get s (length (true_lits es))) (push_lits es a) ∙ slice_get-end (true_lits es) (lit_of a) in
+          let at_k : slice_get (true_lits (es ++ a ∷ [])) k.0 ≡ Some p.0 = ap (λ s. slice_get s k.0) (push_lits es a) ∙ (get_append_front (true_lits es) (lit_of a ∷ []) k.0 k.1 ∙ k.2) in
+          let at_n : slice_get (true_lits (es ++ a ∷ [])) (length (true_lits es)) ≡ Some (lit_of a) = ap (λ s. slice_get s (length (true_lits es))) (push_lits es a) ∙ get_push_last (true_lits es) (lit_of a) in
           let same = w.once k.0 (length (true_lits es)) p.0 (lit_of a) at_k at_n p.2 in
           absurd (omega (arith, k.1))
     ]

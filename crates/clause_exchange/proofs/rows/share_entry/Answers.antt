@@ -1,7 +1,7 @@
 use Rattle.std.proofs.Common.{◌≡◌, ◌+◌, ◌/◌, ◌<◌, ◌≤◌, ◌∙◌, ℕ, suc, List, [], ◌∷◌, ◌++◌, length, take, slice_get, Some, arith, sym, ap, subst, refl, false}
 use Rattle.std.proofs.lemmas.List.{take_all, length-append}
+use Rattle.dg_base.proofs.Lists.{place_of}
 use Rattle.search_core.specs.declared.Entry.{Entry}
-use Rattle.search_core.proofs.Places.{place_of}
 use Rattle.dg_base.specs.declared.Lit.{Lit}
 use Rattle.clause_exchange.specs.declared.rule.Received.{Received}
 use Rattle.clause_exchange.specs.declared.rule.Part.{Part}

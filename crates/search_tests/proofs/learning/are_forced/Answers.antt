@@ -1,9 +1,9 @@
 use Rattle.std.proofs.Common.{◌≡◌, inl, inr, subst, sym, arith}
 use Rattle.std.proofs.lemmas.Bool.{cases_lt}
 use Rattle.std.specs.Prelude.{slice_get, Some, take}
+use Rattle.std.proofs.lemmas.Option.{slice_get_within}
 use Rattle.trail_state.specs.Trails.{Forced, true_lits}
 use Rattle.trail_state.specs.Forcing.{Forces}
-use Rattle.conflict_learn.proofs.Places.{place_within}
 use Rattle.search_tests.proofs.learning.are_forced.Goals as goal
 
 pub loop-i-preserved : goal.loop-i-preserved
@@ -18,5 +18,5 @@ loop-i-preserved c = λ k id m lt e.
 
 pub returns : goal.returns
 returns c = λ _ k id m e.
-    let lt = place_within c.args.trail.now.entries k (Forced m id) e in
+    let lt = slice_get_within c.args.trail.now.entries k (Forced m id) e in
     c.loop-i.invariant k id m (omega arith) e

@@ -1,7 +1,8 @@
 use Rattle.std.proofs.Common.{◌≡◌, subst, arith}
 use Rattle.std.specs.Prelude.{slice_get, Some}
+use Rattle.std.proofs.lemmas.Option.{slice_get_within}
+use Rattle.dg_base.proofs.Lists.{contains_place}
 use Rattle.trail_state.specs.Trails.{true_lits}
-use Rattle.conflict_learn.proofs.Places.{at_place, place_within}
 use Rattle.conflict_learn.proofs.Marks.{last_parts, last_from}
 use Rattle.conflict_learn.proofs.Resolving.{resolvent_follows}
 use Rattle.conflict_learn.proofs.Steps.{once_of}
@@ -23,7 +24,7 @@ clause-requires g c =
     let why = m.why in
     let e = c.in-Some.ensures in
     let same : c.in-Some.reason.0 ≡ m.id = cc in
-    let within = place_within (g.R.Reasons.clauses c.args.reasons.now) m.id m.forced.clause m.forced.named in
+    let within = slice_get_within (g.R.Reasons.clauses c.args.reasons.now) m.id m.forced.clause m.forced.named in
     omega arith
 
 pub add-requires-clause-assigned : goal.add-requires-clause-assigned
@@ -35,10 +36,10 @@ add-requires-clause-assigned g c =
     let e = c.in-Some.ensures in
     let same : c.in-Some.reason.0 ≡ m.id = cc in
     let named = subst (λ k. slice_get clauses k ≡ Some c.clause.result.now) same c.clause.ensures in
-    reason_assigned clauses c.args.trail.now.entries c.clause.result.now c.args.i m.id c.lit_at-lit.result m.forced named (at_place (true_lits c.args.trail.now.entries) c.args.i c.lit_at-lit.result c.lit_at-lit.ensures)
+    reason_assigned clauses c.args.trail.now.entries c.clause.result.now c.args.i m.id c.lit_at-lit.result m.forced named (contains_place (true_lits c.args.trail.now.entries) c.args.i c.lit_at-lit.result c.lit_at-lit.ensures)
 
 pub unmark-requires-clause-listed : goal.unmark-requires-clause-listed
-unmark-requires-clause-listed g c = at_place (true_lits c.args.trail.now.entries) c.args.i c.lit_at-lit.result c.lit_at-lit.ensures
+unmark-requires-clause-listed g c = contains_place (true_lits c.args.trail.now.entries) c.args.i c.lit_at-lit.result c.lit_at-lit.ensures
 
 pub unmark-requires-clause-marked : goal.unmark-requires-clause-marked
 unmark-requires-clause-marked g c =
