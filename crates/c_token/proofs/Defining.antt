@@ -1,5 +1,5 @@
 -- Macros by number: what a name's number says, and one more macro.
-use Rattle.std.proofs.Common.{◌≡◌, ℕ, zero, suc, ◌+◌, ◌-◌, ◌<◌, ◌≤◌, Bool, true, false, cond, ◌&&◌, IsTrue, List, [], ◌∷◌, ◌++◌, length, drop, get_or, bytes_eq, Option, Some, None, is_some, Bor, refl, sym, ap, subst, ◌∙◌, arith, append-nil, length-append, ⊎_elim}
+use Rattle.std.proofs.Common.{◌≡◌, ℕ, zero, suc, ◌+◌, ◌-◌, ◌<◌, ◌≤◌, Bool, true, false, cond, ◌&&◌, IsTrue, List, [], ◌∷◌, ◌++◌, length, drop, get_or, slice_get, bytes_eq, Option, Some, None, is_some, Bor, refl, sym, ap, subst, ◌∙◌, arith, append-nil, length-append, ⊎_elim}
 use Rattle.std.proofs.lemmas.Bool.{lt-ltb, ltb-true, and_parts, and_from, cases_lt}
 use Rattle.std.proofs.lemmas.List.{get_or_append_left}
 use Rattle.std.proofs.lemmas.List.Folds.{list_all-append}
@@ -7,6 +7,7 @@ use Rattle.std.proofs.lemmas.Grind.{flat_map-append}
 use Rattle.std.proofs.Math.Seq.{get_or-append_seam}
 use Rattle.std.specs.HashMap.{get}
 use Rattle.std.specs.List.{list_all}
+use Rattle.dg_base.specs.declared.Place.{Place}
 use Rattle.token_list.specs.declared.Token.{Token}
 use Rattle.c_token.specs.declared.macros.Macro.{Macro}
 use Rattle.c_token.specs.declared.macros.Reader.{Reader}
@@ -14,9 +15,11 @@ use Rattle.c_token.specs.declared.macros.Use.{Use}
 use Rattle.c_token.specs.declared.macros.Use.TheVariants.{Plain, Macro as MacroUse}
 use Rattle.c_token.specs.declared.words.Word.{Word}
 use Rattle.c_token.specs.Macros.{Definition, Reading, bodies_of, macro_of, all_at, is_name, replaced, replaced_by, add, add_words, define}
+use Rattle.c_token.specs.Searching.{uses_in, uses_of}
 use Rattle.c_token.specs.Seen.{token}
 use Rattle.c_token.specs.Skimming.{effects}
-use Rattle.c_token.specs.Tables.{use_tokens, all_tokens, is_below, AllBelow, IsMacro, IsTable, IsPending, Reads, number_of, same_name}
+use Rattle.c_token.specs.Tables.{use_tokens, all_tokens, is_below, AllBelow, IsMacro, IsTable, IsPending, Reads, number_of, same_name, root_in}
+use Rattle.c_token.proofs.Ends.{macro_here, all_at_again}
 
 pub length_bodies : (ms : List Definition) → length (bodies_of ms) ≡ length ms
 length_bodies [] = refl
@@ -125,6 +128,68 @@ used_macro reader r word n h name e =
     let found = number_some r.macros word.text.now n (sym (h.numbers word.text) ∙ e) in
     let low : n < length reader.macros = omega (arith, h.table.len, length_bodies r.macros, found.0) in
     (append-nil _ ∙ sym (ap (λ b. cond b (replaced_by (token word) (macro_of r.macros word.text.now)) (token word ∷ [])) name ∙ ap (replaced_by (token word)) found.1), lt-ltb n (length reader.macros) low)
+
+-- the tokens of a macro's only use are the macro's, wherever it stands
+root_is : (bodies : List (List Token)) (n : ℕ) (us : List Use) (body : List Token) (place : Place) (k : ℕ) → all_tokens bodies us ≡ body → AllBelow n us → get_or bodies n [] ≡ body → root_in n us ≡ Some k
+    → (k ≤ n) × (all_at place (get_or bodies k []) ≡ all_at place (get_or bodies n []))
+root_is bodies n [] body place k e b here h = cc
+root_is bodies n (Plain word ∷ []) body place k e b here h =
+    let same : n ≡ k = cc in
+    (omega arith, ap (λ i. all_at place (get_or bodies i [])) (sym same))
+root_is bodies n (MacroUse i q ∷ []) body place k e b here h =
+    let same : i ≡ k = cc in
+    let low = ltb-true i n (and_parts (is_below n (MacroUse i q)) true b).0 in
+    let whole : all_at q (get_or bodies i []) ≡ get_or bodies n [] = sym (append-nil (all_at q (get_or bodies i []))) ∙ (e ∙ sym here) in (
+      omega arith,
+      ap (λ j. all_at place (get_or bodies j [])) (sym same) ∙ (sym (all_at_again place q (get_or bodies i [])) ∙ ap (all_at place) whole),
+    )
+root_is bodies n (u ∷ v ∷ us) body place k e b here h =
+    let same : n ≡ k = cc in
+    (omega arith, ap (λ i. all_at place (get_or bodies i [])) (sym same))
+
+root_none : (bodies : List (List Token)) (n : ℕ) (us : List Use) → root_in n us ≡ None → all_tokens bodies us ≡ []
+root_none bodies n [] h = refl
+root_none bodies n (u ∷ []) h = cc
+root_none bodies n (u ∷ v ∷ us) h = cc
+
+-- a macro's uses, by its number
+uses_made : (macros : List Macro) (bodies : List (List Token)) (n : ℕ) → IsTable macros bodies → n < length macros → (all_tokens bodies (uses_of macros n) ≡ get_or bodies n []) × AllBelow n (uses_of macros n)
+uses_made macros bodies n t h = step (slice_get macros n) refl
+  where
+    none_past : (ms : List Macro) (k : ℕ) → k < length ms → slice_get ms k ≡ None → ⊥
+    none_past [] k h e = omega arith
+    none_past (m ∷ ms) zero h e = cc
+    none_past (m ∷ ms) (suc k) h e = none_past ms k (omega arith) e
+
+    step : (o : Option Macro) → slice_get macros n ≡ o → (all_tokens bodies (uses_in o) ≡ get_or bodies n []) × AllBelow n (uses_in o)
+    step None e = absurd (none_past macros n h e)
+    step (Some m) e = let made = macro_here macros bodies n m t e in (made.tokens, made.below)
+
+pub used_root : (reader : Reader) (r : Reading) (word : Word) (n k : ℕ) → Reads reader r → is_name word.kind ≡ true → get same_name reader.numbers word.text ≡ Some n → root_in n (uses_of reader.macros n) ≡ Some k
+    → (all_tokens (bodies_of r.macros) (MacroUse k word.place ∷ []) ≡ replaced r.macros (token word)) × IsTrue (is_below (length reader.macros) (MacroUse k word.place))
+used_root reader r word n k h name e root =
+    let found = used_macro reader r word n h name e in
+    let low = ltb-true n (length reader.macros) found.1 in
+    let made = uses_made reader.macros (bodies_of r.macros) n h.table low in
+    let same = root_is (bodies_of r.macros) n (uses_of reader.macros n) (get_or (bodies_of r.macros) n []) word.place k made.0 made.1 refl root in
+    (ap (λ ts. ts ++ []) same.1 ∙ found.0, lt-ltb k (length reader.macros) (omega (arith, same.0)))
+
+pub used_nothing : (reader : Reader) (r : Reading) (word : Word) (n : ℕ) → Reads reader r → is_name word.kind ≡ true → get same_name reader.numbers word.text ≡ Some n → root_in n (uses_of reader.macros n) ≡ None
+    → replaced r.macros (token word) ≡ []
+used_nothing reader r word n h name e root =
+    let found = used_macro reader r word n h name e in
+    let low = ltb-true n (length reader.macros) found.1 in
+    let made = uses_made reader.macros (bodies_of r.macros) n h.table low in
+    let empty : get_or (bodies_of r.macros) n [] ≡ [] = sym made.0 ∙ root_none (bodies_of r.macros) n (uses_of reader.macros n) root in
+    sym found.0 ∙ ap (λ ts. all_at word.place ts ++ []) empty
+
+-- a token that gives nothing changes nothing
+pub reads_nothing : (reader : Reader) (r : Reading) (t : Token) → Reads reader r → replaced r.macros t ≡ [] → Reads reader (add r t)
+reads_nothing reader r t h e = subst (Reads reader) (sym (ap (add_words r.pending r) e ∙ step r.pending refl)) h
+  where
+    step : (p : Option Definition) → r.pending ≡ p → add_words p r [] ≡ r
+    step None k = ap (λ ws. record r { words = ws }) (append-nil r.words)
+    step (Some m) k = ap (λ b. record r { pending = Some (record m { body = b }) }) (append-nil m.body) ∙ ap (λ p. record r { pending = p }) (sym k)
 
 pub used_plain : (reader : Reader) (r : Reading) (word : Word) → Reads reader r → is_name word.kind ≡ true → get same_name reader.numbers word.text ≡ None
     → token word ∷ [] ≡ replaced r.macros (token word)

@@ -11,7 +11,7 @@ use Rattle.c_token.specs.declared.skim.Class.{Class}
 use Rattle.c_token.specs.declared.skim.Class.TheVariants.{Open, Close}
 use Rattle.c_token.specs.declared.skim.Effect.{Effect}
 use Rattle.c_token.specs.declared.skim.Effects.{Effects}
-use Rattle.c_token.specs.Macros.{all_at}
+use Rattle.c_token.specs.Macros.{all_at, put_at}
 use Rattle.c_token.specs.Searching.{uses_in, uses_of}
 use Rattle.c_token.specs.Skimming.{class_of, extern_after, extern_behind, last_after, last_of, bracket, open_more, bounded, effect, effects, effect_in, Joins}
 use Rattle.c_token.specs.Tables.{use_tokens, all_tokens, AreEnds, IsMacro, IsTable}
@@ -35,6 +35,10 @@ pub token_effect_is : (e : Bool) (c : Class) (t : Token) → c ≡ class_of t �
 token_effect_is e c t h = one_held e c ∙ ap (held_of e) h
 
 -- ---- places
+pub all_at_again : (p q : Place) (ts : List Token) → all_at p (all_at q ts) ≡ all_at p ts
+all_at_again p q [] = refl
+all_at_again p q (t ∷ ts) = ap (λ us. put_at p t ∷ us) (all_at_again p q ts)
+
 last_at : (p : Place) (e : Bool) (ts : List Token) → last_of e (all_at p ts) ≡ last_of e ts
 last_at p e [] = refl
 last_at p e (t ∷ ts) =

@@ -30,7 +30,7 @@ use Rattle.c_token.specs.Skimming.{Skim, extern_behind, context_behind, ahead, o
 use Rattle.c_token.specs.Tables.{use_tokens, all_tokens, IsTable}
 use Rattle.c_token.specs.Tokens.{is_unsupported, is_unsupported_name}
 use Rattle.c_token.proofs.Effects.{context_is}
-use Rattle.c_token.proofs.Ends.{macro_here, next_tokens, got_in}
+use Rattle.c_token.proofs.Ends.{all_at_again, macro_here, next_tokens, got_in}
 use Rattle.c_token.proofs.Holding.{Holds, HasBy, holds_fed, feed_holds}
 use Rattle.c_token.proofs.Running.{run_append, run_dead, run_alike, run_moved, run_keeps, moved, extern_at, ahead_at, opened_at}
 
@@ -133,10 +133,6 @@ passage_left bodies place holds f s k out has same count is =
     }
 
 -- ---- steps, where nothing is found yet
-all_at_again : (p q : Place) (ts : List Token) → all_at p (all_at q ts) ≡ all_at p ts
-all_at_again p q [] = refl
-all_at_again p q (t ∷ ts) = ap (λ us. put_at p t ∷ us) (all_at_again p q ts)
-
 -- a use's tokens are at its own place
 pub tokens_at : (bodies : List (List Token)) (place q : Place) (n : ℕ) → all_at place (use_tokens bodies (MacroUse n q)) ≡ body_at place bodies n
 tokens_at bodies place q n = all_at_again place q (get_or bodies n [])

@@ -57,6 +57,16 @@ abbrev pub use_at : Word → Option ℕ → Use
 use_at word None = Plain word
 use_at word (Some n) = MacroUse n word.place
 
+-- the macro that gives the same tokens as this one, which has these uses, if it gives any
+abbrev pub root_by : ℕ → Use → ℕ
+root_by n (Plain word) = n
+root_by n (MacroUse k place) = k
+
+abbrev pub root_in : ℕ → List Use → Option ℕ
+root_in n [] = None
+root_in n (u ∷ []) = Some (root_by n u)
+root_in n (u ∷ v ∷ us) = Some n
+
 -- whether two names are the same
 abbrev pub same_name : Bor (List ℕ) → Bor (List ℕ) → Bool
 same_name x y = pointwise nat_eq x.now y.now

@@ -1,12 +1,13 @@
 // Macros: from the pieces of a text to its tokens and the uses of its macros.
-ghost use Rattle.std.specs.Prelude.{◌≡◌, ◌≤◌, IsTrue, List, [], ◌∷◌, map, length, drop, IfOk, OnOk};
+ghost use Rattle.std.specs.Prelude.{◌≡◌, ◌≤◌, IsTrue, List, [], ◌∷◌, map, length, drop, IfOk, OnOk, MatchOption};
 ghost use Rattle.std.specs.HashMap.{get};
 ghost use Rattle.token_list.specs.declared.Token.{Token};
 ghost use Rattle.c_token.specs.Bytes.{capped};
 ghost use Rattle.c_token.specs.Seen.{segment, token};
 ghost use Rattle.c_token.specs.Macros.{Reading, bodies_of, nothing_read, replaced, add, begin, define, read_piece, read};
 ghost use Rattle.c_token.specs.Skimming.{effects};
-ghost use Rattle.c_token.specs.Tables.{all_tokens, use_tokens, is_below, AllBelow, AreEnds, IsMacro, IsTable, same_name, Reads, IsReader};
+ghost use Rattle.c_token.specs.Tables.{all_tokens, use_tokens, is_below, AllBelow, AreEnds, IsMacro, IsTable, same_name, Reads, IsReader, root_by, root_in};
+ghost use Rattle.c_token.specs.Searching.{uses_of};
 
 use crate::TokenKind;
 use crate::pieces::Piece;
@@ -124,6 +125,26 @@ fn macro_from<'a>(
     Ok(Macro { count, uses, ends })
 }
 
+fn root_by(number: usize, one: &Use<'_>) -> usize
+    ensures { result ≡ root_by number one.now }
+{
+    match one {
+        Use::Plain(_) => number,
+        Use::Macro(inner, _) => *inner,
+    }
+}
+
+/// The macro that gives the same tokens as this one, which has these uses, if it gives any.
+fn root_in(number: usize, uses: &[Use<'_>]) -> Option<usize>
+    ensures { result ≡ root_in number uses.now }
+{
+    match uses {
+        [] => None,
+        [one] => Some(root_by(number, one)),
+        [_, _, ..] => Some(number),
+    }
+}
+
 /// What is read of a text.
 #[derive(Drop)]
 pub struct Reader<'a> {
@@ -160,23 +181,38 @@ impl<'a> Reader<'a> {
         self.numbers.get(name).copied()
     }
 
-    /// The use that a token stands for.
-    fn use_of(&self, word: Word<'a>) -> Use<'a>
-        ensures { (r : Reading) → Reads self.now r → (all_tokens (bodies_of r.macros) (result ∷ []) ≡ replaced r.macros (token word.entry)) × IsTrue (is_below (length self.now.macros) result) }
+    /// The macro that a name with this number stands for, if it gives any tokens.
+    fn root(&self, number: usize) -> Option<usize>
+        ensures { result ≡ root_in number (uses_of self.now.macros number) }
+    {
+        match self.macros.get(number) {
+            Some(named) => root_in(number, named.uses.as_slice()),
+            None => None,
+        }
+    }
+
+    /// The use that a token stands for; none, where it is a macro's name that gives no tokens.
+    fn use_of(&self, word: Word<'a>) -> Option<Use<'a>>
+        ensures { (r : Reading) → Reads self.now r → MatchOption result (replaced r.macros (token word.entry) ≡ []) (λ u. (all_tokens (bodies_of r.macros) (u ∷ []) ≡ replaced r.macros (token word.entry)) × IsTrue (is_below (length self.now.macros) u)) }
     {
         if !word.is_name() {
-            return Use::Plain(word);
+            return Some(Use::Plain(word));
         }
-        match self.number(word.text) {
-            Some(number) => Use::Macro(number, word.place),
-            None => Use::Plain(word),
+        let Some(number) = self.number(word.text) else {
+            return Some(Use::Plain(word));
+        };
+        match self.root(number) {
+            Some(root) => Some(Use::Macro(root, word.place)),
+            None => None,
         }
     }
 
     fn add(&mut self, word: Word<'a>) -> Result<(), OutOfMemory>
         ensures { (r : Reading) → Reads self.old r → OnOk result (Reads self.new (add r (token word.entry))) }
     {
-        let one = self.use_of(word);
+        let Some(one) = self.use_of(word) else {
+            return Ok(());
+        };
         if self.pending.is_some() {
             self.body.push(one)?;
         } else {

@@ -21,6 +21,9 @@ use dg_base::{OutOfMemory, Place};
 use std::alloc::Global;
 use std::collections::HashMap;
 
+/// How many passages may be kept. Beyond it the answer is want of memory.
+const MAX_PASSAGES: usize = 131072;
+
 /// A macro that is begun: what stands before it, and how many brackets close behind it that it opens.
 #[derive(Debug, Clone, Copy, PartialEq, Eq, Hash, Drop)]
 pub struct Entry {
@@ -211,12 +214,15 @@ impl<'a> Search<'a> {
         }
     }
 
-    /// Ends a macro.
+    /// Ends a macro. Too many passages are want of memory.
     fn leave(&mut self, frame: &Frame) -> Result<(), OutOfMemory>
         ensures sieve { OnOk result (self.new.sieve ≡ self.old.sieve) }
         ensures frames { OnOk result (self.new.frames ≡ self.old.frames) }
         ensures passages { (bodies : List (List Token)) (holds : Bool) → OnOk result (All (IsPassage bodies holds) (values self.old.passages) → IsPassage bodies holds (left_passage (state self.old.sieve) frame.now) → All (IsPassage bodies holds) (values self.new.passages)) }
     {
+        if self.passages.len() >= MAX_PASSAGES {
+            return Err(OutOfMemory);
+        }
         let passage = Passage {
             entry: frame.entry,
             context: self.sieve.context,

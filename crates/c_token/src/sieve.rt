@@ -11,6 +11,10 @@ use std::alloc::Global;
 /// The most tokens that a list may have.
 pub const MAX_TOKENS: usize = 65536;
 
+/// How many bytes the tokens that are held may have together: 16 MiB. A text of 1 MiB gives more only where its macros repeat long
+/// words. Beyond it the answer is want of memory.
+const MAX_BYTES: usize = 16777216;
+
 /// Keeps tokens as they come, up to the limit and to the first that isn't supported.
 #[derive(Debug, Drop)]
 pub struct Sieve<'a> {
@@ -20,6 +24,8 @@ pub struct Sieve<'a> {
     pub holds: bool,
     pub words: Vec<Word<'a>>,
     pub count: usize,
+    /// How many bytes the tokens that are held have together.
+    bytes: usize,
     /// The first token kept that isn't supported.
     pub unsupported: Option<Word<'a>>,
 }
@@ -37,6 +43,7 @@ impl<'a> Sieve<'a> {
             holds,
             words: Vec::new(alloc),
             count: 0,
+            bytes: 0,
             unsupported: None,
         }
     }
@@ -49,9 +56,21 @@ impl<'a> Sieve<'a> {
             return Ok(());
         }
         if self.count < MAX_TOKENS {
+            self.weigh(word)?;
             self.words.push(word)?;
         }
         self.count = plus(self.count, 1)?;
+        Ok(())
+    }
+
+    /// Counts a token's bytes; too many are want of memory.
+    fn weigh(&mut self, word: Word<'a>) -> Result<(), OutOfMemory>
+        ensures { OnOk result (state self.new ≡ state self.old) }
+    {
+        self.bytes = self.bytes.saturating_add(word.text.len());
+        if self.bytes > MAX_BYTES {
+            return Err(OutOfMemory);
+        }
         Ok(())
     }
 
