@@ -1,15 +1,19 @@
 -- What the sieve holds of the tokens that the pass keeps.
-use Rattle.std.proofs.Common.{◌≡◌, ℕ, ◌+◌, Bool, true, false, cond, not, List, [], ◌∷◌, ◌++◌, length, take, nat_lt, Option, Some, None, find, refl, sym, ap, subst, ◌∙◌, arith, length-append}
+use Rattle.std.proofs.Common.{◌≡◌, ℕ, ◌+◌, Bool, true, false, cond, not, List, [], ◌∷◌, ◌++◌, map, length, take, drop, min, ◌-◌, nat_lt, append-nil, Option, Some, None, find, refl, sym, ap, subst, ◌∙◌, arith, length-append}
 use Rattle.std.proofs.lemmas.Bool.{cond_both, ltb-true, ltb-false}
-use Rattle.std.proofs.lemmas.List.{take-append-le, take_all}
+use Rattle.std.proofs.lemmas.List.{length-map, take-map, drop-map, take-append-le, take_all}
 use Rattle.std.proofs.lemmas.List.Folds.{find-append}
 use Rattle.std.specs.Option.{option_or}
+use Rattle.dg_base.specs.declared.Place.{Place}
 use Rattle.token_list.specs.declared.Token.{Token}
 use Rattle.c_token.specs.declared.sieve.TheConstants.{MAX_TOKENS}
 use Rattle.c_token.specs.declared.skim.Context.{Context}
 use Rattle.c_token.specs.declared.skim.Region.{Region}
+use Rattle.c_token.specs.declared.words.Word.{Word}
 use Rattle.c_token.specs.Dropping.{is_dropped}
-use Rattle.c_token.specs.Sieving.{State, with_word, hold, keep_found, keep_if, feed, Has}
+use Rattle.c_token.specs.Macros.{all_at}
+use Rattle.c_token.specs.Seen.{token}
+use Rattle.c_token.specs.Sieving.{State, with_word, hold, again, hold_again, keep_found, keep_if, feed, Has}
 use Rattle.c_token.specs.Skimming.{Skim, class_of, context_after, judged, put_last, fed}
 use Rattle.c_token.specs.Tokens.{is_unsupported}
 
@@ -92,6 +96,59 @@ holds_fed b s k t h none =
     let all : (m : Context) (r : Region) → Type 0 = λ m r. Holds
     (keep_if (judged m.in_extern b m.last r (class_of t)).keeps (record s { context = context_after m (class_of t); region = (judged m.in_extern b m.last r (class_of t)).region }) t) (fed b k t) in
     subst (λ m. all m s.region) (sym h.context) (subst (λ r. all k.context r) (sym h.region) here)
+
+-- some tokens stand before others
+abbrev pub Grown : List Token → List Token → Type 0
+Grown old new = (more : List Token) × (new ≡ old ++ more)
+
+-- feeding holds one more token, or none
+pub feed_grown : (b : Bool) (s : State) (t : Token) → Grown s.words (feed b s t).words
+feed_grown b s t = step (judged s.context.in_extern b s.context.last s.region (class_of t)).keeps
+  where
+    next : State
+    next = record s { context = context_after s.context (class_of t); region = (judged s.context.in_extern b s.context.last s.region (class_of t)).region }
+
+    same : Grown s.words s.words
+    same = ([], sym (append-nil s.words))
+
+    fits : (r : Bool) → Grown s.words (cond r (s.words ++ t ∷ []) s.words)
+    fits true = (t ∷ [], refl)
+    fits false = same
+
+    room : (h : Bool) → Grown s.words (cond h (with_word next t) next).words
+    room true = fits (nat_lt s.count MAX_TOKENS)
+    room false = same
+
+    found : (u : Bool) → Grown s.words (cond u (record next { unsupported = Some t }) (hold next t)).words
+    found true = same
+    found false = room s.holds
+
+    by : (o : Option Token) → Grown s.words (keep_found o next t).words
+    by (Some u) = same
+    by None = found (is_unsupported t)
+
+    dropped : (d : Bool) → Grown s.words (cond d next (keep_found s.unsupported next t)).words
+    dropped true = same
+    dropped false = by s.unsupported
+
+    step : (d : Bool) → Grown s.words (keep_if d next t).words
+    step true = dropped (is_dropped t)
+    step false = same
+
+-- words that are held once more, by the tokens that they are
+pub again_is : (words : List Word) (first count n : ℕ) (place : Place) → n ≡ min count (MAX_TOKENS - length words) → all_at place (map token (take n (drop first words))) ≡ again first count place (map token words)
+again_is words first count n place e =
+    let len : length (map token words) ≡ length words = length-map words token in
+    ap (all_at place)
+    (sym (take-map token n (drop first words))
+    ∙ (ap (take n) (sym (drop-map token first words)) ∙ ap (λ m. take m (drop first (map token words))) (e ∙ ap (λ m. min count (MAX_TOKENS - m)) (sym len))))
+
+pub held_again : (s w : State) (words : List Token) (first count n : ℕ) (place : Place) → w ≡ s → s.holds ≡ true → words ≡ s.words ++ again first count place s.words → n ≡ s.count + count
+    → record w { words = words; count = n } ≡ hold_again first count place s
+held_again s w words first count n place same holds is counted =
+    ap (λ (x : State). record x { words = words; count = n }) same
+    ∙ (ap (λ (ws : List Token). record s { words = ws; count = n }) (is ∙ sym (ap (λ b. cond b (s.words ++ again first count place s.words) s.words) holds))
+    ∙ ap (λ (m : ℕ). record s { words = cond s.holds (s.words ++ again first count place s.words) s.words; count = m }) (counted ∙ sym (ap (λ b. cond b (s.count + count) s.count) holds)))
 
 -- feeding changes nothing of what is held
 pub feed_holds : (b : Bool) (s : State) (t : Token) → (feed b s t).holds ≡ s.holds

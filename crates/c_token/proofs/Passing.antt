@@ -1,7 +1,7 @@
 -- Each step of a search leads to what comes of all tokens.
-use Rattle.std.proofs.Common.{◌≡◌, ℕ, zero, suc, ◌+◌, ◌-◌, ◌<◌, ◌≤◌, Bool, true, false, cond, not, ◌||◌, List, [], ◌∷◌, ◌++◌, length, take, drop, get_or, nat_lt, nat_le, slice_get, find, min, unwrap_or, Option, Some, None, is_some, option_map, refl, sym, ap, subst, ◌∙◌, arith, append-nil, length-append, ⊎_elim, ◌⊎◌, Result, Ok, Err, OnOk, MatchOption}
-use Rattle.std.proofs.lemmas.Bool.{cases_lt, lt-ltb, le-ltb, leb-true}
-use Rattle.std.proofs.lemmas.List.{map-append, length-map, take-append-le}
+use Rattle.std.proofs.Common.{◌≡◌, ℕ, zero, suc, ◌+◌, ◌-◌, ◌<◌, ◌≤◌, Bool, true, false, cond, List, [], ◌∷◌, ◌++◌, length, take, drop, get_or, nat_lt, slice_get, find, min, unwrap_or, Option, Some, None, is_some, option_map, refl, sym, ap, subst, ◌∙◌, arith, append-nil, length-append, ⊎_elim, Result, Ok, Err, OnOk, MatchOption}
+use Rattle.std.proofs.lemmas.Bool.{cases_lt, lt-ltb, le-ltb}
+use Rattle.std.proofs.lemmas.List.{map-append, length-map, length-drop, length-take, length-take-le, take_all, take-take, take-map, take-append-le, drop-append-le}
 use Rattle.std.proofs.lemmas.List.Elements.{All-cons, All-same}
 use Rattle.std.proofs.lemmas.List.Folds.{find-append}
 use Rattle.std.proofs.lemmas.Map.Views.{All-map-IsPermutation, All-values-set_value}
@@ -24,14 +24,14 @@ use Rattle.c_token.specs.declared.skim.Kind.{Kind}
 use Rattle.c_token.specs.declared.skim.Region.{Region}
 use Rattle.c_token.specs.declared.skim.Region.TheVariants.{Dead}
 use Rattle.c_token.specs.Macros.{put_at, all_at}
-use Rattle.c_token.specs.Searching.{uses_in, uses_of, next_use, next_frame, body_at, rest_of, before, passed, IsPassage, left_passage, repeated, AreBegun, resumed, Leads, LeadsBy, Seeking}
-use Rattle.c_token.specs.Sieving.{State, Has, feed, is_full}
+use Rattle.c_token.specs.Searching.{uses_in, uses_of, next_use, next_frame, body_at, rest_of, before, passed, AreAmong, IsPassage, left_passage, repeated, AreBegun, resumed, Leads, LeadsBy, Seeking}
+use Rattle.c_token.specs.Sieving.{State, Has, feed, again}
 use Rattle.c_token.specs.Skimming.{Skim, extern_behind, context_behind, ahead, opened, bounded, fed, run, effect}
 use Rattle.c_token.specs.Tables.{use_tokens, all_tokens, IsTable}
 use Rattle.c_token.specs.Tokens.{is_unsupported, is_unsupported_name}
 use Rattle.c_token.proofs.Effects.{context_is}
 use Rattle.c_token.proofs.Ends.{all_at_again, macro_here, next_tokens, got_in}
-use Rattle.c_token.proofs.Holding.{Holds, HasBy, holds_fed, feed_holds}
+use Rattle.c_token.proofs.Holding.{Holds, HasBy, Grown, holds_fed, feed_grown, feed_holds}
 use Rattle.c_token.proofs.Running.{run_append, run_dead, run_alike, run_moved, run_keeps, moved, extern_at, ahead_at, opened_at}
 
 -- ---- what is found stays found
@@ -89,36 +89,91 @@ passed_from bodies place e out =
 length_at : (p : Place) (ts : List Token) → length (all_at p ts) ≡ length ts
 length_at p ts = length-map ts (put_at p)
 
+-- ---- which tokens are held
+-- the first of a list, where they are fewer than were asked for, are all of it
+short_take : (n : ℕ) (ts : List Token) → length (take n ts) < n → take n ts ≡ ts
+short_take n ts h =
+    ⊎_elim
+    (λ less. take_all n ts (omega arith))
+    (λ more. let len = length-take-le n ts more in absurd (omega arith))
+    (cases_lt (length ts) n)
+
+take_over : (n : ℕ) (xs ys : List Token) → length xs ≤ n → take n (xs ++ ys) ≡ xs ++ take (n - length xs) ys
+take_over n [] ys h = let e : n ≡ n - 0 = omega arith in ap (λ k. take k ys) e
+take_over zero (x ∷ xs) ys h = absurd (omega arith)
+take_over (suc n) (x ∷ xs) ys h =
+    let e : n - length xs ≡ suc n - length (x ∷ xs) = omega arith in
+    ap (λ us. x ∷ us) (take_over n xs ys (omega arith)) ∙ ap (λ k. x ∷ xs ++ take k ys) e
+
+take_twice : (m n : ℕ) (ts : List Token) → take m (take n ts) ≡ take (min n m) ts
+take_twice m n ts =
+    ⊎_elim
+    (λ less. let e : m ≡ min n m = omega arith in take-take m n ts (omega arith) ∙ ap (λ k. take k ts) e)
+    (λ more. let len = length-take n ts in let e : n ≡ min n m = omega arith in take_all m (take n ts) (omega arith) ∙ ap (λ k. take k ts) e)
+    (cases_lt m n)
+
+-- tokens that are among some are among more
+passage_more : (bodies : List (List Token)) (holds : Bool) (words more : List Token) (p : Passage) → IsPassage bodies holds words p → IsPassage bodies holds (words ++ more) p
+passage_more bodies holds words more p is = record {
+  context = is.context;
+  region = is.region;
+  supported = is.supported;
+  count = is.count;
+  held = λ h small.
+      let len = length-append words more in
+      let here = is.held h (omega arith) in
+      let fits = here.0 in
+      let left = length-drop p.first words in
+      let same : take p.count (drop p.first (words ++ more)) ≡ take p.count (drop p.first words) =
+      ap (take p.count) (drop-append-le p.first words more (omega arith)) ∙ take-append-le p.count (drop p.first words) more (omega arith) in
+      (omega arith, λ q. ap (all_at q) same ∙ here.1 q);
+}
+
+pub all_more : (bodies : List (List Token)) (holds : Bool) (old new : List Token) (known : List Passage) → Grown old new → All (IsPassage bodies holds old) known → All (IsPassage bodies holds new) known
+all_more bodies holds old new known grown all =
+    λ k d h. subst (λ ws. IsPassage bodies holds ws (get_or known k d)) (sym grown.1) (passage_more bodies holds old grown.0 (get_or known k d) (all k d h))
+
+-- the tokens that a passage kept, once more, as many as there is room for
+again_kept : (bodies : List (List Token)) (place : Place) (p : Passage) (words out : List Token) → words ≡ take MAX_TOKENS out → length (passed bodies p.entry).kept ≡ p.count
+    → (length words < MAX_TOKENS → AreAmong words p (passed bodies p.entry).kept) → words ++ again p.first p.count place words ≡ take MAX_TOKENS (out ++ all_at place (passed bodies p.entry).kept)
+again_kept bodies place p words out first count held =
+    ⊎_elim
+    (λ small.
+    let all : words ≡ out = first ∙ short_take MAX_TOKENS out (subst (λ ts. length ts < MAX_TOKENS) first small) in
+    let room = MAX_TOKENS - length words in
+    let some : again p.first p.count place words ≡ take room (all_at place kept) =
+    ap (all_at place) (sym (take_twice room p.count (drop p.first words)))
+    ∙ (sym (take-map (put_at place) room (take p.count (drop p.first words))) ∙ ap (take room) ((held small).1 place)) in
+    ap (λ ts. words ++ ts) some ∙ (sym (take_over MAX_TOKENS words (all_at place kept) (omega arith)) ∙ ap (λ ts. take MAX_TOKENS (ts ++ all_at place kept)) all))
+    (λ large.
+    let none : min p.count (MAX_TOKENS - length words) ≡ 0 = omega arith in
+    let many : MAX_TOKENS ≤ length out = long_take out (subst (λ ts. MAX_TOKENS ≤ length ts) first large) in
+    ap (λ n. words ++ all_at place (take n (drop p.first words))) none ∙ (append-nil words ∙ (first ∙ sym (take-append-le MAX_TOKENS out (all_at place kept) many))))
+    (cases_lt (length words) MAX_TOKENS)
+  where
+    kept : List Token
+    kept = (passed bodies p.entry).kept
+
+    long_take : (ts : List Token) → MAX_TOKENS ≤ length (take MAX_TOKENS ts) → MAX_TOKENS ≤ length ts
+    long_take ts h = ⊎_elim (λ less. let all = ap length (take_all MAX_TOKENS ts (omega arith)) in absurd (omega arith)) (λ more. more) (cases_lt (length ts) MAX_TOKENS)
+
 -- a macro is passed again
-pub has_repeated : (bodies : List (List Token)) (place : Place) (holds : Bool) (p : Passage) (s : State) (out : List Token) → IsPassage bodies holds p → s.holds ≡ holds → find is_unsupported out ≡ None
-    → (s.holds ≡ true → s.words ≡ take MAX_TOKENS out) → (s.holds ≡ true → s.count ≡ length out) → (p.count ≡ 0) ⊎ (is_full s ≡ true) → Has (repeated p s) (outer place out (passed bodies p.entry))
-has_repeated bodies place holds p s out is same none words count full = record {
+pub has_repeated : (bodies : List (List Token)) (place : Place) (holds : Bool) (p : Passage) (s : State) (out : List Token) → IsPassage bodies holds s.words p → s.holds ≡ holds → find is_unsupported out ≡ None
+    → (s.holds ≡ true → s.words ≡ take MAX_TOKENS out) → (s.holds ≡ true → s.count ≡ length out) → Has (repeated place p s) (outer place out (passed bodies p.entry))
+has_repeated bodies place holds p s out is same none words count = record {
   context = sym is.context;
   region = sym is.region;
   supported = find-append is_unsupported out (all_at place (passed bodies p.entry).kept) ∙ (ap (λ o. option_or o (find is_unsupported (all_at place (passed bodies p.entry).kept))) none ∙ none_found_at place (passed bodies p.entry).kept is.supported);
   words = λ h.
-      words h
-      ∙ ⊎_elim
-      (λ zero.
-      let nothing : length (all_at place (passed bodies p.entry).kept) ≡ 0 = length_at place (passed bodies p.entry).kept ∙ (is.count (sym same ∙ h) ∙ zero) in
-      ap (take MAX_TOKENS) (sym (no_more out (all_at place (passed bodies p.entry).kept) nothing)))
-      (λ f. let many : MAX_TOKENS ≤ length out = full_many s (length out) h (count h) f in sym (take-append-le MAX_TOKENS out (all_at place (passed bodies p.entry).kept) many))
-      full;
+      ap (λ b. cond b (s.words ++ again p.first p.count place s.words) s.words) h ∙ again_kept bodies place p s.words out (words h) (is.count (sym same ∙ h)) (λ small. is.held (sym same ∙ h) small);
   count = λ h.
       ap (λ b. cond b (s.count + p.count) s.count) h
       ∙ (let more = is.count (sym same ∙ h) in let len = length-append out (all_at place (passed bodies p.entry).kept) in omega (arith, count h, more, len, length_at place (passed bodies p.entry).kept));
 }
-  where
-    no_more : (xs ys : List Token) → length ys ≡ 0 → xs ++ ys ≡ xs
-    no_more xs [] h = append-nil xs
-    no_more xs (y ∷ ys) h = absurd (omega arith)
-
-    full_many : (s : State) (n : ℕ) → s.holds ≡ true → s.count ≡ n → is_full s ≡ true → MAX_TOKENS ≤ n
-    full_many s n h c f = let test : nat_le MAX_TOKENS s.count ≡ true = sym (ap (λ b. not b || nat_le MAX_TOKENS s.count) h) ∙ f in let le = leb-true MAX_TOKENS s.count test in omega arith
 
 -- what is known of a macro that is left
 pub passage_left : (bodies : List (List Token)) (place : Place) (holds : Bool) (f : Frame) (s : State) (k : Skim) (out : List Token) → Has s k → s.holds ≡ holds → (holds ≡ true → length out ≡ f.count)
-    → k ≡ run f.entry.behind (before f.entry out) (body_at place bodies f.entry.number) → IsPassage bodies holds (left_passage s f)
+    → k ≡ run f.entry.behind (before f.entry out) (body_at place bodies f.entry.number) → IsPassage bodies holds s.words (left_passage s f)
 passage_left bodies place holds f s k out has same count is =
     let all : k ≡ outer place out (passed bodies f.entry) = is ∙ passed_from bodies place f.entry out in
     let kept : k.kept ≡ out ++ all_at place (passed bodies f.entry).kept = ap (λ (x : Skim). x.kept) all in
@@ -130,7 +185,25 @@ passage_left bodies place holds f s k out has same count is =
           let here = has.count (same ∙ h) in
           let len = ap length kept ∙ length-append out (all_at place (passed bodies f.entry).kept) in
           omega (arith, here, len, count h, length_at place (passed bodies f.entry).kept);
+      held = λ h small.
+          let here = has.count (same ∙ h) in
+          let first = count h in
+          let taken : s.words ≡ take MAX_TOKENS k.kept = has.words (same ∙ h) in
+          let held : s.words ≡ out ++ all_at place (passed bodies f.entry).kept = taken ∙ (short_take MAX_TOKENS k.kept (subst (λ ts. length ts < MAX_TOKENS) taken small) ∙ kept) in
+          let long = ap length kept ∙ length-append out (all_at place (passed bodies f.entry).kept) in
+          let words = ap length held ∙ length-append out (all_at place (passed bodies f.entry).kept) in (
+            omega arith,
+            λ q.
+                ap (λ ts. all_at q (take (s.count - f.count) (drop f.count ts))) held
+                ∙ (ap (λ n. all_at q (take (s.count - f.count) (drop n (out ++ all_at place (passed bodies f.entry).kept)))) (sym first)
+                ∙ (ap (λ ts. all_at q (take (s.count - f.count) ts)) (drop-append-len out (all_at place (passed bodies f.entry).kept))
+                ∙ (ap (all_at q) (take_all (s.count - f.count) (all_at place (passed bodies f.entry).kept) (omega arith)) ∙ all_at_again q place (passed bodies f.entry).kept))),
+          );
     }
+  where
+    drop-append-len : (xs ys : List Token) → drop (length xs) (xs ++ ys) ≡ ys
+    drop-append-len [] ys = refl
+    drop-append-len (x ∷ xs) ys = drop-append-len xs ys
 
 -- ---- steps, where nothing is found yet
 -- a use's tokens are at its own place
@@ -207,16 +280,16 @@ entered macros bodies place s fs j n w e l i =
 
 -- a macro is passed that was passed before
 pub leads_repeated : (macros : List Macro) (bodies : List (List Token)) (place : Place) (holds : Bool) (s new : State) (fs : List Frame) (j n : ℕ) (w : Skim) (e : Entry) (p : Passage)
-    → Leads macros bodies place s fs j (body_at place bodies n) w → IsEntry s bodies n j e → p.entry ≡ e → IsPassage bodies holds p → s.holds ≡ holds → (p.count ≡ 0) ⊎ (is_full s ≡ true)
-    → new ≡ repeated p s → Leads macros bodies place new fs 0 [] w
-leads_repeated macros bodies place holds s new fs j n w e p l i known is same full new_is =
+    → Leads macros bodies place s fs j (body_at place bodies n) w → IsEntry s bodies n j e → p.entry ≡ e → IsPassage bodies holds s.words p → s.holds ≡ holds → new ≡ repeated place p s
+    → Leads macros bodies place new fs 0 [] w
+leads_repeated macros bodies place holds s new fs j n w e p l i known is same new_is =
     let out : List Token = l.now.kept in
     let begin = entered macros bodies place s fs j n w e l i in
     let gone : run j l.now (body_at place bodies n) ≡ outer place out (passed bodies p.entry) =
     begin.0
     ∙ (ap (λ (x : Skim). run e.behind x (body_at place bodies e.number)) begin.1 ∙ (passed_from bodies place e out ∙ ap (λ (x : Entry). outer place out (passed bodies x)) (sym known))) in
     leads_on macros bodies place s new fs j (body_at place bodies n) w l (ap (λ (x : State). x.holds) new_is) (outer place out (passed bodies p.entry)) gone
-    (subst (λ (x : State). Has x (outer place out (passed bodies p.entry))) (sym new_is) (has_repeated bodies place holds p s out is same l.has.supported l.has.words l.has.count full))
+    (subst (λ (x : State). Has x (outer place out (passed bodies p.entry))) (sym new_is) (has_repeated bodies place holds p s out is same l.has.supported l.has.words l.has.count))
 
 uses_here : (macros : List Macro) (bodies : List (List Token)) (n : ℕ) → IsTable macros bodies → n < length macros → all_tokens bodies (uses_of macros n) ≡ get_or bodies n []
 uses_here macros bodies n t h = step (slice_get macros n) refl
@@ -261,7 +334,7 @@ got_none (x ∷ xs) (suc n) e = got_none xs n e
 
 -- a macro at its end is left
 pub leads_left : (macros : List Macro) (bodies : List (List Token)) (place : Place) (holds : Bool) (s : State) (fs : List Frame) (w : Skim) (f : Frame) → Leads macros bodies place s (f ∷ fs) 0 [] w
-    → s.holds ≡ holds → next_use macros f ≡ None → Leads macros bodies place s fs 0 [] w × IsPassage bodies holds (left_passage s f)
+    → s.holds ≡ holds → next_use macros f ≡ None → Leads macros bodies place s fs 0 [] w × IsPassage bodies holds s.words (left_passage s f)
 leads_left macros bodies place holds s fs w f l same end =
     let nothing : rest_of macros bodies place f ≡ [] = ap (λ us. all_at place (all_tokens bodies us)) (got_none (uses_of macros f.entry.number) f.next end) in
     let stays : run f.entry.behind l.now (rest_of macros bodies place f) ≡ l.now = ap (run f.entry.behind l.now) nothing in (
@@ -312,7 +385,7 @@ open_leads : (macros : List Macro) (bodies : List (List Token)) (place : Place) 
 open_leads macros bodies place holds s known fs j us w h none = subst (λ o. LeadsBy o macros bodies place s fs j us w) none h.leads
 
 seeks_open : (macros : List Macro) (bodies : List (List Token)) (place : Place) (holds : Bool) (s : State) (known : List Passage) (fs : List Frame) (j : ℕ) (us : List Token) (w : Skim) → s.holds ≡ holds
-    → All (IsPassage bodies holds) known → s.unsupported ≡ None → Leads macros bodies place s fs j us w → Seeking macros bodies place holds s known fs j us w
+    → All (IsPassage bodies holds s.words) known → s.unsupported ≡ None → Leads macros bodies place s fs j us w → Seeking macros bodies place holds s known fs j us w
 seeks_open macros bodies place holds s known fs j us w same all none l = record { holds_same = same; passages = all; leads = subst (λ o. LeadsBy o macros bodies place s fs j us w) (sym none) l }
 
 pub seeks_fed : (macros : List Macro) (bodies : List (List Token)) (place : Place) (holds : Bool) (s new : State) (known : List Passage) (fs : List Frame) (j b : ℕ) (t : Token) (w : Skim)
@@ -321,7 +394,7 @@ seeks_fed macros bodies place holds s new known fs j b t w h none e is =
     let same : new.holds ≡ s.holds = ap (λ (x : State). x.holds) is ∙ feed_holds (nat_lt 0 b) s t in
     record {
       holds_same = same ∙ h.holds_same;
-      passages = h.passages;
+      passages = all_more bodies holds s.words new.words known (subst (λ (x : State). Grown s.words x.words) (sym is) (feed_grown (nat_lt 0 b) s t)) h.passages;
       leads = leads_fed macros bodies place s new fs j b t w (open_leads macros bodies place holds s known fs j (t ∷ []) w h none) none e is same;
     }
 
@@ -330,17 +403,23 @@ pub seeks_skipped : (macros : List Macro) (bodies : List (List Token)) (place : 
     → o ≡ opened s.context.in_extern (get_or bodies n []) → c ≤ depth → new ≡ record s { context = context_behind s.context (get_or bodies n []); region = Dead kind (depth - c + o) }
     → Seeking macros bodies place holds new known fs 0 [] w
 seeks_skipped macros bodies place holds s new known fs j n w kind depth c o h none dead closers openers fits is =
-    seeks_open macros bodies place holds new known fs 0 [] w (ap (λ (x : State). x.holds) is ∙ h.holds_same) h.passages (ap (λ (x : State). x.unsupported) is ∙ none)
+    let grown : Grown s.words new.words = ([], ap (λ (x : State). x.words) is ∙ sym (append-nil s.words)) in
+    seeks_open macros bodies place holds new known fs 0 [] w (ap (λ (x : State). x.holds) is ∙ h.holds_same) (all_more bodies holds s.words new.words known grown h.passages) (ap (λ (x : State). x.unsupported) is ∙ none)
     (leads_skipped macros bodies place s new fs j n w kind depth c o (open_leads macros bodies place holds s known fs j (body_at place bodies n) w h none) dead closers openers fits is)
 
 pub seeks_repeated : (macros : List Macro) (bodies : List (List Token)) (place : Place) (holds : Bool) (s new : State) (known : List Passage) (fs : List Frame) (j n : ℕ) (w : Skim) (e : Entry) (p : Passage)
-    → Seeking macros bodies place holds s known fs j (body_at place bodies n) w → s.unsupported ≡ None → IsEntry s bodies n j e → p.entry ≡ e → IsAmong known p → (p.count ≡ 0) ⊎ (is_full s ≡ true)
-    → new ≡ repeated p s → Seeking macros bodies place holds new known fs 0 [] w
-seeks_repeated macros bodies place holds s new known fs j n w e p h none i same among full is =
-    let P : Passage → Type 0 = IsPassage bodies holds in
-    let valid : IsPassage bodies holds p = subst P (sym among.1.1) (h.passages among.0 p among.1.0) in
-    seeks_open macros bodies place holds new known fs 0 [] w (ap (λ (x : State). x.holds) is ∙ h.holds_same) h.passages (ap (λ (x : State). x.unsupported) is ∙ none)
-    (leads_repeated macros bodies place holds s new fs j n w e p (open_leads macros bodies place holds s known fs j (body_at place bodies n) w h none) i same valid h.holds_same full is)
+    → Seeking macros bodies place holds s known fs j (body_at place bodies n) w → s.unsupported ≡ None → IsEntry s bodies n j e → p.entry ≡ e → IsAmong known p → new ≡ repeated place p s
+    → Seeking macros bodies place holds new known fs 0 [] w
+seeks_repeated macros bodies place holds s new known fs j n w e p h none i same among is =
+    let P : Passage → Type 0 = IsPassage bodies holds s.words in
+    let valid : IsPassage bodies holds s.words p = subst P (sym among.1.1) (h.passages among.0 p among.1.0) in
+    let grown : Grown s.words new.words = subst (λ (x : State). Grown s.words x.words) (sym is) (fits s.holds) in
+    seeks_open macros bodies place holds new known fs 0 [] w (ap (λ (x : State). x.holds) is ∙ h.holds_same) (all_more bodies holds s.words new.words known grown h.passages) (ap (λ (x : State). x.unsupported) is ∙ none)
+    (leads_repeated macros bodies place holds s new fs j n w e p (open_leads macros bodies place holds s known fs j (body_at place bodies n) w h none) i same valid h.holds_same is)
+  where
+    fits : (b : Bool) → Grown s.words (cond b (s.words ++ again p.first p.count place s.words) s.words)
+    fits true = (again p.first p.count place s.words, refl)
+    fits false = ([], sym (append-nil s.words))
 
 pub seeks_begun : (macros : List Macro) (bodies : List (List Token)) (place : Place) (holds : Bool) (s : State) (known : List Passage) (fs : List Frame) (j n : ℕ) (w : Skim) (f : Frame) → IsTable macros bodies
     → n < length macros → Seeking macros bodies place holds s known fs j (body_at place bodies n) w → s.unsupported ≡ None → IsEntry s bodies n j f.entry → f.next ≡ 0 → f.count ≡ s.count
@@ -351,7 +430,7 @@ seeks_begun macros bodies place holds s known fs j n w f t within h none i first
 
 pub seeks_left : (macros : List Macro) (bodies : List (List Token)) (place : Place) (holds : Bool) (s : State) (known after : List Passage) (fs : List Frame) (w : Skim) (f : Frame)
     → Seeking macros bodies place holds s known (f ∷ fs) 0 [] w → s.unsupported ≡ None → next_use macros f ≡ None
-    → (All (IsPassage bodies holds) known → IsPassage bodies holds (left_passage s f) → All (IsPassage bodies holds) after) → Seeking macros bodies place holds s after fs 0 [] w
+    → (All (IsPassage bodies holds s.words) known → IsPassage bodies holds s.words (left_passage s f) → All (IsPassage bodies holds s.words) after) → Seeking macros bodies place holds s after fs 0 [] w
 seeks_left macros bodies place holds s known after fs w f h none end put =
     let there = leads_left macros bodies place holds s fs w f (open_leads macros bodies place holds s known (f ∷ fs) 0 [] w h none) h.holds_same end in
     seeks_open macros bodies place holds s after fs 0 [] w h.holds_same (put h.passages there.1) none there.0

@@ -30,7 +30,7 @@ use Rattle.c_token.proofs.Running.{run_append}
 pub record Between (bodies : List (List Token)) (holds : Bool) (s : Search) (rest all : List Token) : Type 0 where
   pub now : Skim
   pub holds_same : s.sieve.holds ≡ holds
-  pub passages : All (IsPassage bodies holds) (values s.passages)
+  pub passages : All (IsPassage bodies holds (state s.sieve).words) (values s.passages)
   pub by : HasBy (state s.sieve).unsupported (state s.sieve) now
   pub leads : run 0 now rest ≡ run 0 beginning all
 
@@ -39,7 +39,7 @@ pub between_start : (bodies : List (List Token)) (holds : Bool) (s : Search) (al
 between_start bodies holds s all is none = record {
   now = beginning;
   holds_same = ap (λ (x : State). x.holds) is;
-  passages = subst (All (IsPassage bodies holds)) (sym none) (All-nil (IsPassage bodies holds));
+  passages = subst (All (IsPassage bodies holds (state s.sieve).words)) (sym none) (All-nil (IsPassage bodies holds (state s.sieve).words));
   by = subst (λ (x : State). HasBy x.unsupported x beginning) (sym is) (record { context = refl; region = refl; supported = refl; words = λ h. refl; count = λ h. refl });
   leads = refl;
 }

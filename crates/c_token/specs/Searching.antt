@@ -1,6 +1,6 @@
 -- One pass over the tokens of uses of macros, where a macro isn't passed twice in the same region. No public contract cites
 -- these: the proofs tie them to what is left.
-use Rattle.std.specs.Prelude.{◌≡◌, ◌⊎◌, ℕ, ◌+◌, ◌-◌, ◌≤◌, Bool, true, if◌then◌else◌, List, [], ◌∷◌, reverse, length, drop, take, find, slice_get, slice_index_or, Option, Some, None}
+use Rattle.std.specs.Prelude.{◌≡◌, ◌⊎◌, ℕ, ◌+◌, ◌-◌, ◌<◌, ◌≤◌, Bool, true, List, [], ◌∷◌, reverse, length, drop, take, find, slice_get, slice_index_or, Option, Some, None}
 use Rattle.std.specs.HashMap.{values}
 use Rattle.std.specs.List.{All}
 use Rattle.dg_base.specs.declared.Place.{Place}
@@ -15,7 +15,7 @@ use Rattle.c_token.specs.declared.search.Search.{Search}
 use Rattle.c_token.specs.declared.sieve.TheConstants.{MAX_TOKENS}
 use Rattle.c_token.specs.Dropping.{kept}
 use Rattle.c_token.specs.Macros.{all_at}
-use Rattle.c_token.specs.Sieving.{State, state, Has}
+use Rattle.c_token.specs.Sieving.{State, state, hold_again, Has}
 use Rattle.c_token.specs.Skimming.{Skim, run}
 use Rattle.c_token.specs.Tables.{all_tokens, AllBelow}
 use Rattle.c_token.specs.Tokens.{is_unsupported}
@@ -81,20 +81,25 @@ before e out = record { context = e.context; region = e.region; kept = out }
 abbrev pub passed : List (List Token) → Entry → Skim
 passed bodies e = run e.behind (before e []) (slice_index_or bodies e.number [])
 
--- what is known of a macro is so
-pub record IsPassage (bodies : List (List Token)) (holds : Bool) (p : Passage) : Type 0 where
+-- some of these tokens are the ones that a passage kept, at other places
+abbrev pub AreAmong : List Token → Passage → List Token → Type 0
+AreAmong words p kept = (p.first + p.count ≤ length words) × ((place : Place) → all_at place (take p.count (drop p.first words)) ≡ all_at place kept)
+
+-- what is known of a macro is so, and its tokens are among those that are held, unless these are too many
+pub record IsPassage (bodies : List (List Token)) (holds : Bool) (words : List Token) (p : Passage) : Type 0 where
   pub context : (passed bodies p.entry).context ≡ p.context
   pub region : (passed bodies p.entry).region ≡ p.region
   pub supported : find is_unsupported (passed bodies p.entry).kept ≡ None
   pub count : holds ≡ true → length (passed bodies p.entry).kept ≡ p.count
+  pub held : holds ≡ true → length words < MAX_TOKENS → AreAmong words p (passed bodies p.entry).kept
 
 -- what is known of a macro when it is left
 abbrev pub left_passage : State → Frame → Passage
-left_passage s f = record { entry = f.entry; context = s.context; region = s.region; count = s.count - f.count }
+left_passage s f = record { entry = f.entry; context = s.context; region = s.region; first = f.count; count = s.count - f.count }
 
 -- a macro is passed that was passed before
-abbrev pub repeated : Passage → State → State
-repeated p s = record s { context = p.context; region = p.region; count = if s.holds then s.count + p.count else s.count }
+abbrev pub repeated : Place → Passage → State → State
+repeated place p s = hold_again p.first p.count place (record s { context = p.context; region = p.region })
 
 -- the rest of a macro leads to what comes of all of it
 pub record IsBegun (macros : List Macro) (bodies : List (List Token)) (place : Place) (holds : Bool) (f : Frame) (k : Skim) : Type 0 where
@@ -126,7 +131,7 @@ LeadsBy None macros bodies place s fs j us w = Leads macros bodies place s fs j 
 
 pub record Seeking (macros : List Macro) (bodies : List (List Token)) (place : Place) (holds : Bool) (s : State) (known : List Passage) (fs : List Frame) (j : ℕ) (us : List Token) (w : Skim) : Type 0 where
   pub holds_same : s.holds ≡ holds
-  pub passages : All (IsPassage bodies holds) known
+  pub passages : All (IsPassage bodies holds s.words) known
   pub leads : LeadsBy s.unsupported macros bodies place s fs j us w
 
 abbrev pub Seeks : List Macro → List (List Token) → Place → Bool → Search → List Frame → ℕ → List Token → Skim → Type 0

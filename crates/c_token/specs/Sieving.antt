@@ -1,11 +1,13 @@
 -- What the sieve holds of the tokens that are left. No public contract cites these: the proofs tie them to what is left.
-use Rattle.std.specs.Prelude.{◌≡◌, ℕ, ◌+◌, Bool, true, not, ◌||◌, nat_lt, nat_le, if◌then◌else◌, List, [], ◌∷◌, ◌++◌, map, length, take, find, Option, Some, None, option_map}
+use Rattle.std.specs.Prelude.{◌≡◌, ℕ, ◌+◌, ◌-◌, Bool, true, nat_lt, min, if◌then◌else◌, List, [], ◌∷◌, ◌++◌, map, length, take, drop, find, Option, Some, None, option_map}
+use Rattle.dg_base.specs.declared.Place.{Place}
 use Rattle.token_list.specs.declared.Token.{Token}
 use Rattle.c_token.specs.declared.sieve.Sieve.{Sieve}
 use Rattle.c_token.specs.declared.sieve.TheConstants.{MAX_TOKENS}
 use Rattle.c_token.specs.declared.skim.Context.{Context}
 use Rattle.c_token.specs.declared.skim.Region.{Region}
 use Rattle.c_token.specs.Dropping.{is_dropped}
+use Rattle.c_token.specs.Macros.{all_at}
 use Rattle.c_token.specs.Seen.{token}
 use Rattle.c_token.specs.Skimming.{Skim, class_of, context_after, judged}
 use Rattle.c_token.specs.Skimming as skimming
@@ -63,8 +65,16 @@ feed closed s t =
     let j = judged s.context.in_extern closed s.context.last s.region (class_of t) in
     keep_if j.keeps (record s { context = context_after s.context (class_of t); region = j.region }) t
 
-abbrev pub is_full : State → Bool
-is_full s = not s.holds || nat_le MAX_TOKENS s.count
+-- So many of these tokens, from this one on, at a place: as many as there is room for.
+abbrev pub again : ℕ → ℕ → Place → List Token → List Token
+again first count place words = all_at place (take (min count (MAX_TOKENS - length words)) (drop first words))
+
+-- holds tokens once more that are held
+abbrev pub hold_again : ℕ → ℕ → Place → State → State
+hold_again first count place s = record s {
+  words = if s.holds then s.words ++ again first count place s.words else s.words;
+  count = if s.holds then s.count + count else s.count;
+}
 
 -- the state has what is kept: all of it up to the limit, or only nothing that isn't supported
 pub record Has (s : State) (k : Skim) : Type 0 where

@@ -112,13 +112,13 @@ fn read_tokens(alloc: Global, text: &[u8]) -> Result<Answer, OutOfMemory>
 /// The tokens of a text. The first of these that holds refuses it: it has more than 1048576 bytes; a byte outside comments
 /// begins no token; a word isn't supported; a macro has more than 1024 tokens; there are more than 65536 tokens.
 ///
-/// Time and memory grow with the text and with the limits, however many tokens its macros give; a name that stands for another
-/// one is followed once, where it is defined. A token that is held is fetched anew at each use, through the macros that it comes
-/// from and past their tokens that are left out: at most 65536 times some 1024 steps.
+/// Memory grows with the text and with the limits, and so does time, however many tokens its macros give: a macro is passed once in
+/// each way in which it is used (what stands before it, and the brackets that are open there and close behind), and what was kept
+/// of it is held once more at each further use of that kind.
 ///
 /// Want of memory is also the answer where the tokens that are left have more than 16777216 bytes together; where macros are
-/// passed in more than 131072 ways (a macro, what stands before it, and the brackets that are open there and close behind); and
-/// where a macro opens or closes 2^64 brackets or more, and what is left hangs on how many.
+/// used in more than 131072 ways, or in ways that have more than 67108864 tokens and uses together; and where a macro opens or closes
+/// 2^64 brackets or more, and what is left hangs on how many.
 pub fn tokens(alloc: Global, text: &[u8]) -> Result<Tokens, Refusal>
     ensures { Gives result (answer text.now) }
 {

@@ -10,8 +10,8 @@
 //! The invariant: a macro that doubles again and again has more tokens than any memory holds, so no macro is written out. It
 //! is kept as uses of earlier macros with its count, and with the brackets that its last uses close and open. One pass from
 //! the front (`specs/Skimming`) then knows of each bracket behind `__attribute__` whether it is closed. It passes a macro at
-//! once where the macro doesn't end what is left out, or where it was passed before in the same region and no more of it is
-//! to be held (`specs/Sieving`, `specs/Tables`, `specs/Searching`, which the proofs tie to the definitions above).
+//! once where the macro doesn't end what is left out, or where it was passed before in the same region: then what was kept of it
+//! is held once more (`specs/Sieving`, `specs/Tables`, `specs/Searching`, which the proofs tie to the definitions above).
 //!
 //! The layer above may use `lexer::tokens` with its contract. The types of tokens, and what a number's text is worth, are
 //! those of `token_list`.

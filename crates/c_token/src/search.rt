@@ -6,7 +6,7 @@ ghost use Rattle.std.specs.List.{All, IsAmong};
 ghost use Rattle.dg_base.specs.declared.Place.{Place};
 ghost use Rattle.token_list.specs.declared.Token.{Token};
 ghost use Rattle.c_token.specs.Skimming.{Skim, bounded, effects, extern_behind, ahead};
-ghost use Rattle.c_token.specs.Sieving.{state, is_full};
+ghost use Rattle.c_token.specs.Sieving.{state};
 ghost use Rattle.c_token.specs.Macros.{all_at};
 ghost use Rattle.c_token.specs.declared.skim.Kind.{Kind};
 ghost use Rattle.c_token.specs.declared.skim.Region.TheVariants.{Dead};
@@ -24,6 +24,10 @@ use std::collections::HashMap;
 /// How many passages may be kept. Beyond it the answer is want of memory.
 const MAX_PASSAGES: usize = 131072;
 
+/// How many uses the macros that are passed may have together, a macro's as often as it is passed. Beyond it the answer is want of
+/// memory; it takes macros of thousands of tokens, each behind thousands of different numbers of open brackets.
+const MAX_STEPS: usize = 67108864;
+
 /// A macro that is begun: what stands before it, and how many brackets close behind it that it opens.
 #[derive(Debug, Clone, Copy, PartialEq, Eq, Hash, Drop)]
 pub struct Entry {
@@ -33,12 +37,14 @@ pub struct Entry {
     pub behind: usize,
 }
 
-/// What stands behind a macro that was passed, and how many tokens were kept of it. Each of them is supported.
+/// What stands behind a macro that was passed, and which tokens were kept of it: the first by its number among all that are kept,
+/// and how many. Each of them is supported.
 #[derive(Debug, Clone, Copy, Drop)]
 pub struct Passage {
     pub entry: Entry,
     pub context: Context,
     pub region: Region,
+    pub first: usize,
     pub count: usize,
 }
 
@@ -58,6 +64,8 @@ pub struct Search<'a> {
     pub passages: HashMap<Entry, Passage>,
     /// The macros that are being passed, the innermost last.
     pub frames: Vec<Frame>,
+    /// How many uses the macros that were passed have together.
+    steps: usize,
 }
 
 fn place_of(one: &Use<'_>) -> Place
@@ -127,30 +135,27 @@ fn context_behind(context: Context, effect: &Effect) -> Context
 }
 
 impl<'a> Search<'a> {
-    /// What stands behind a macro that was passed before, if no more of it is to be held.
+    /// What stands behind a macro that was passed before.
     fn known(&self, entry: &Entry) -> Option<Passage>
-        ensures { IfSome result (λ p. (p.entry ≡ entry.now) × (IsAmong (values self.now.passages) p) × ((p.count ≡ 0) ⊎ (is_full (state self.now.sieve) ≡ true))) }
+        ensures { IfSome result (λ p. (p.entry ≡ entry.now) × (IsAmong (values self.now.passages) p)) }
     {
         let passage = *self.passages.get(entry)?;
-        if passage.entry == *entry && (passage.count == 0 || self.sieve.is_full()) {
+        if passage.entry == *entry {
             Some(passage)
         } else {
             None
         }
     }
 
-    /// Passes a macro that was passed before.
-    fn repeat(&mut self, passage: &Passage) -> Result<(), OutOfMemory>
-        ensures sieve { OnOk result (state self.new.sieve ≡ repeated passage.now (state self.old.sieve)) }
+    /// Passes a macro that was passed before, and holds its tokens once more.
+    fn repeat(&mut self, passage: &Passage, place: Place) -> Result<(), OutOfMemory>
+        ensures sieve { OnOk result (state self.new.sieve ≡ repeated place passage.now (state self.old.sieve)) }
         ensures passages { self.new.passages ≡ self.old.passages }
         ensures frames { self.new.frames ≡ self.old.frames }
     {
         self.sieve.context = passage.context;
         self.sieve.region = passage.region;
-        if self.sieve.holds {
-            self.sieve.count = plus(self.sieve.count, passage.count)?;
-        }
-        Ok(())
+        self.sieve.hold_again(passage.first, passage.count, place)
     }
 
     /// Passes a macro's tokens at once, or begins to pass them.
@@ -158,11 +163,12 @@ impl<'a> Search<'a> {
         &mut self,
         macros: &[Macro<'a>],
         number: usize,
+        place: Place,
         behind: usize,
     ) -> Result<(), OutOfMemory>
         requires { number < length macros.now }
         ensures frames { OnOk result (Grows number (frames_of self.old) (frames_of self.new)) }
-        ensures seeks { (bodies : List (List Token)) (place : Place) (holds : Bool) (j : ℕ) (w : Skim) → IsTable macros.now bodies → behind ≡ bounded j → (state self.old.sieve).unsupported ≡ None → Seeks macros.now bodies place holds self.old (frames_of self.old) j (body_at place bodies number) w → OnOk result (Seeks macros.now bodies place holds self.new (frames_of self.new) 0 [] w) }
+        ensures seeks { (bodies : List (List Token)) (holds : Bool) (j : ℕ) (w : Skim) → IsTable macros.now bodies → behind ≡ bounded j → (state self.old.sieve).unsupported ≡ None → Seeks macros.now bodies place holds self.old (frames_of self.old) j (body_at place bodies number) w → OnOk result (Seeks macros.now bodies place holds self.new (frames_of self.new) 0 [] w) }
     {
         let used = &macros[number];
         let context = self.sieve.context;
@@ -182,7 +188,7 @@ impl<'a> Search<'a> {
             behind,
         };
         if let Some(passage) = self.known(&entry) {
-            return self.repeat(&passage);
+            return self.repeat(&passage, place);
         }
         let count = self.sieve.count;
         self.frames.push(Frame {
@@ -210,23 +216,25 @@ impl<'a> Search<'a> {
         }
         match one {
             Use::Plain(word) => self.sieve.feed(word.at(place), behind > 0),
-            Use::Macro(number, _) => self.enter(macros, number, behind),
+            Use::Macro(number, _) => self.enter(macros, number, place, behind),
         }
     }
 
-    /// Ends a macro. Too many passages are want of memory.
+    /// Ends a macro. Too many passages are want of memory, and too long ones together.
     fn leave(&mut self, frame: &Frame) -> Result<(), OutOfMemory>
         ensures sieve { OnOk result (self.new.sieve ≡ self.old.sieve) }
         ensures frames { OnOk result (self.new.frames ≡ self.old.frames) }
-        ensures passages { (bodies : List (List Token)) (holds : Bool) → OnOk result (All (IsPassage bodies holds) (values self.old.passages) → IsPassage bodies holds (left_passage (state self.old.sieve) frame.now) → All (IsPassage bodies holds) (values self.new.passages)) }
+        ensures passages { (bodies : List (List Token)) (holds : Bool) (words : List Token) → OnOk result (All (IsPassage bodies holds words) (values self.old.passages) → IsPassage bodies holds words (left_passage (state self.old.sieve) frame.now) → All (IsPassage bodies holds words) (values self.new.passages)) }
     {
-        if self.passages.len() >= MAX_PASSAGES {
+        self.steps = self.steps.saturating_add(frame.next);
+        if self.passages.len() >= MAX_PASSAGES || self.steps > MAX_STEPS {
             return Err(OutOfMemory);
         }
         let passage = Passage {
             entry: frame.entry,
             context: self.sieve.context,
             region: self.sieve.region,
+            first: frame.count,
             count: self.sieve.count.saturating_sub(frame.count),
         };
         self.passages.insert(frame.entry, passage)?;
@@ -284,6 +292,7 @@ pub fn sift<'a>(
         sieve: Sieve::new(alloc, holds),
         passages: HashMap::new(alloc),
         frames: Vec::new(alloc),
+        steps: 0,
     };
     for (index, one) in uses.iter().enumerate() {
         let place = place_of(one);

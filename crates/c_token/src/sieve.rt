@@ -1,11 +1,12 @@
 // The tokens that are left, held as they come.
-ghost use Rattle.std.specs.Prelude.{◌≡◌, OnOk};
+ghost use Rattle.std.specs.Prelude.{◌≡◌, map, take, drop, IfOk, OnOk};
+ghost use Rattle.c_token.specs.Macros.{all_at};
 ghost use Rattle.c_token.specs.Seen.{token};
-ghost use Rattle.c_token.specs.Sieving.{state, keep, hold, feed, beginning, is_full};
+ghost use Rattle.c_token.specs.Sieving.{state, keep, hold, hold_again, feed, beginning};
 
 use crate::skim::{Context, Last, Region, context_after, judged, plus};
 use crate::words::Word;
-use dg_base::OutOfMemory;
+use dg_base::{OutOfMemory, Place};
 use std::alloc::Global;
 
 /// The most tokens that a list may have.
@@ -15,9 +16,38 @@ pub const MAX_TOKENS: usize = 65536;
 /// words. Beyond it the answer is want of memory.
 const MAX_BYTES: usize = 16777216;
 
+/// So many of these tokens from this one on, or as many as there are.
+fn part<'b, 'a>(words: &'b [Word<'a>], first: usize, count: usize) -> &'b [Word<'a>]
+    ensures { result.now ≡ take count (drop first words.now) }
+{
+    let rest = &words[first.min(words.len())..];
+    &rest[..count.min(rest.len())]
+}
+
+/// The same tokens, all at one place.
+fn moved<'a>(alloc: Global, words: &[Word<'a>], place: Place) -> Result<Vec<Word<'a>>, OutOfMemory>
+    ensures { IfOk result (λ list. map token list.items ≡ all_at place (map token words.now)) }
+{
+    let mut list = Vec::new(alloc);
+    for word in words {
+        list.push(word.at(place))?;
+    }
+    Ok(list)
+}
+
+/// How many bytes tokens have together, up to 2^64 - 1.
+fn bytes_of(words: &[Word<'_>]) -> usize {
+    let mut bytes: usize = 0;
+    for word in words {
+        bytes = bytes.saturating_add(word.text.len());
+    }
+    bytes
+}
+
 /// Keeps tokens as they come, up to the limit and to the first that isn't supported.
-#[derive(Debug, Drop)]
+#[derive(Drop)]
 pub struct Sieve<'a> {
+    alloc: Global,
     pub context: Context,
     pub region: Region,
     /// Whether the tokens that are kept are held and counted, or only looked at.
@@ -35,6 +65,7 @@ impl<'a> Sieve<'a> {
         ensures { state result ≡ beginning holds }
     {
         Sieve {
+            alloc,
             context: Context {
                 in_extern: false,
                 last: Last::Other,
@@ -56,18 +87,40 @@ impl<'a> Sieve<'a> {
             return Ok(());
         }
         if self.count < MAX_TOKENS {
-            self.weigh(word)?;
+            self.weigh(word.text.len())?;
             self.words.push(word)?;
         }
         self.count = plus(self.count, 1)?;
         Ok(())
     }
 
-    /// Counts a token's bytes; too many are want of memory.
-    fn weigh(&mut self, word: Word<'a>) -> Result<(), OutOfMemory>
+    /// Holds tokens once more that are held, at another place and up to the limit: so many, from this one on.
+    pub fn hold_again(
+        &mut self,
+        first: usize,
+        count: usize,
+        place: Place,
+    ) -> Result<(), OutOfMemory>
+        ensures { OnOk result (state self.new ≡ hold_again first count place (state self.old)) }
+    {
+        if !self.holds {
+            return Ok(());
+        }
+        let room = MAX_TOKENS.saturating_sub(self.words.len());
+        let again = part(self.words.as_slice(), first, count.min(room));
+        let bytes = bytes_of(again);
+        let mut again = moved(self.alloc, again, place)?;
+        self.weigh(bytes)?;
+        self.words.append(&mut again)?;
+        self.count = plus(self.count, count)?;
+        Ok(())
+    }
+
+    /// Counts the bytes of tokens; too many are want of memory.
+    fn weigh(&mut self, bytes: usize) -> Result<(), OutOfMemory>
         ensures { OnOk result (state self.new ≡ state self.old) }
     {
-        self.bytes = self.bytes.saturating_add(word.text.len());
+        self.bytes = self.bytes.saturating_add(bytes);
         if self.bytes > MAX_BYTES {
             return Err(OutOfMemory);
         }
@@ -99,12 +152,5 @@ impl<'a> Sieve<'a> {
             self.keep(word)?;
         }
         Ok(())
-    }
-
-    /// Whether more tokens change no more than the count.
-    pub fn is_full(&self) -> bool
-        ensures { result ≡ is_full (state self.now) }
-    {
-        !self.holds || self.count >= MAX_TOKENS
     }
 }

@@ -19,7 +19,7 @@ returns-in_default-clause-seeks c = λ bodies holds w t s.
     subst (λ (x : State). Seeking c.args.macros.now bodies c.args.place holds x (values c.leave.new.self.passages) (frames_of c.leave.new.self) 0 [] w) (sym (ap state sieve))
     (subst (λ (fs : List Frame). Seeking c.args.macros.now bodies c.args.place holds (state c.args.self.now.sieve) (values c.leave.new.self.passages) fs 0 [] w) (sym (ap (λ fs. frames_of (record c.args.self.now { frames = fs })) frames))
     (seeks_left c.args.macros.now bodies c.args.place holds (state c.args.self.now.sieve) (values c.args.self.now.passages) (values c.leave.new.self.passages) (frames_of c.args.self.now) w c.args.frame s none (sym c.in_default.ensures) put)))
-    c.leave.ensures.sieve c.leave.ensures.frames (c.leave.ensures.passages bodies holds)
+    c.leave.ensures.sieve c.leave.ensures.frames (c.leave.ensures.passages bodies holds (state c.args.self.now.sieve).words)
 
 pub closers_behind-requires : goal.closers_behind-requires
 closers_behind-requires c = next_is_below c.args.macros.now c.args.frame c.in-Some.one c.requires.ordered (sym c.in-Some.ensures)

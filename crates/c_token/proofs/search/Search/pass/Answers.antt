@@ -24,5 +24,5 @@ pub returns-in-Macro-clause-seeks : goal.returns-in-Macro-clause-seeks
 returns-in-Macro-clause-seeks c = λ bodies holds j w t b s.
     let none = no_word token c.args.self.now.sieve.unsupported (sym c.is_some.ensures ∙ c.if-is_some.false) in
     let here = subst (λ (u : Use). Seeking c.args.macros.now bodies c.args.place holds (state c.args.self.now.sieve) (values c.args.self.now.passages) (frames_of c.args.self.now) j (all_at c.args.place (use_tokens bodies u)) w) c.in-Macro.is s in
-    c.enter.ensures.seeks bodies c.args.place holds j w t (b none) none
+    c.enter.ensures.seeks bodies holds j w t (b none) none
     (subst (λ (us : List Token). Seeking c.args.macros.now bodies c.args.place holds (state c.args.self.now.sieve) (values c.args.self.now.passages) (frames_of c.args.self.now) j us w) (tokens_at bodies c.args.place c.in-Macro.field-1 c.in-Macro.number) here)
