@@ -1,0 +1,5 @@
+//! Tests of the check of proof logs: texts of logs by hand, read and checked.
+#![tactic(auto)]
+
+#[cfg(test)]
+mod logs;

@@ -1,0 +1,4 @@
+pub mod Chaining
+pub mod Denying
+pub mod Raising
+pub mod Views
