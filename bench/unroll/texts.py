@@ -47,6 +47,10 @@ def texts(turns):
     # a go number and a lock at a time: 2 accesses, 2 a statement
     mutex = "pthread_mutex_t m; "
     yield "locks", main_of("pthread_mutex_lock(&m); pthread_mutex_unlock(&m); " * (ACCESSES // 3), mutex)
+    # what weighs nothing: arrays without values, of whose cells each is a step; numbers alone, which are no step
+    cells = ", ".join(f"a{i}[{CELLS}]" for i in range(8100))
+    yield "weightless_arrays", main_of("for (;;) { int " + cells + "; }")
+    yield "weightless_numbers", main_of("for (;;) { " + " ".join(f"{i};" for i in range(8000)) + " }")
 
 
 folder = sys.argv[1]
