@@ -1,6 +1,7 @@
--- Calls in an expression without a begin or an end.
+-- Calls in an expression without a begin or an end; and what a mark says of a call.
 use Rattle.std.proofs.Common.{◌≡◌, inl, inr, List, [], ◌∷◌, Bool, true, false, Option, Some, None, refl, subst, ◌⊎◌}
 use Rattle.std.proofs.lemmas.Bool.{or_parts, not-true, both_ways}
+use Rattle.std.proofs.lemmas.Slice.Eq.{bytes_eq-Decides}
 use Rattle.std.specs.Prelude.{cond, not, ◌||◌}
 use Rattle.std.specs.Str.{bytes_eq}
 use Rattle.dg_base.specs.declared.Place.{Place}
@@ -8,7 +9,9 @@ use Rattle.c_rules.specs.declared.builtin.Builtin.{Builtin}
 use Rattle.c_rules.specs.declared.builtin.Builtin.TheVariants as b
 use Rattle.c_rules.specs.Names.{Name, or_else, look_up, thread_calls, other_calls, builtin_named}
 use Rattle.c_rules.specs.Scopes.{First, unless}
-use Rattle.c_check.specs.Sections.{begin_name, end_name, broken_call}
+use Rattle.c_check.specs.declared.sections.Mark.{Mark}
+use Rattle.c_check.specs.declared.sections.Mark.TheVariants.{Begins, Ends, Neither}
+use Rattle.c_check.specs.Sections.{begin_name, end_name, call_mark, is_marked, broken_call}
 use Rattle.emit_steps.proofs.Growth.{Each}
 
 -- it is no begin and no end of a section
@@ -64,3 +67,28 @@ plain_call p n c whole e =
     let none : (bytes_eq begin_name n || bytes_eq end_name n) ≡ false = not-true (bytes_eq begin_name n || bytes_eq end_name n) (holds_at (not (bytes_eq begin_name n || bytes_eq end_name n)) p whole) in
     let parts : (bytes_eq begin_name n ≡ false) × (bytes_eq end_name n ≡ false) = or_parts (bytes_eq begin_name n) (bytes_eq end_name n) none in
     plain_named n c parts.0 parts.1 e
+
+-- ---- marks
+
+begun : (p q : Place) (n : Name) (b c : Bool) → bytes_eq begin_name n ≡ b → cond b (Begins p) (cond c (Ends p) Neither) ≡ Begins q → begin_name ≡ n
+begun p q n true c is h = (bytes_eq-Decides begin_name n).0 is
+begun p q n false true is h = absurd (let no : Ends p ≡ Begins q = h in cc)
+begun p q n false false is h = absurd (let no : Neither ≡ Begins q = h in cc)
+
+ended : (p q : Place) (n : Name) (b c : Bool) → bytes_eq end_name n ≡ c → cond b (Begins p) (cond c (Ends p) Neither) ≡ Ends q → end_name ≡ n
+ended p q n true c is h = absurd (let no : Begins p ≡ Ends q = h in cc)
+ended p q n false true is h = (bytes_eq-Decides end_name n).0 is
+ended p q n false false is h = absurd (let no : Neither ≡ Ends q = h in cc)
+
+-- a call that is marked as a begin has its name, and one that is marked as an end
+pub begin_call : (p q : Place) (n : Name) → call_mark p n ≡ Begins q → begin_name ≡ n
+begin_call p q n h = begun p q n (bytes_eq begin_name n) (bytes_eq end_name n) refl h
+
+pub end_call : (p q : Place) (n : Name) → call_mark p n ≡ Ends q → end_name ≡ n
+end_call p q n h = ended p q n (bytes_eq begin_name n) (bytes_eq end_name n) refl h
+
+-- a mark among some that is not the first is among the rest
+pub rest_marked : (q : Mark) (b : Bool) → (is_marked q || b) ≡ true → q ≡ Neither → b ≡ true
+rest_marked (Begins p) b h is = absurd (let no : Begins p ≡ Neither = is in cc)
+rest_marked (Ends p) b h is = absurd (let no : Ends p ≡ Neither = is in cc)
+rest_marked Neither b h is = h

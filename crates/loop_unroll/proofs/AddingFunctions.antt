@@ -1,9 +1,7 @@
 -- Statements whose sections stand as they should, bodies and calls of functions add steps under their guards.
 use Rattle.std.proofs.Common.{◌≡◌, ℕ, zero, suc, ◌+◌, ◌-◌, inl, inr, List, [], ◌∷◌, map, Bool, true, false, Option, Some, None, refl, sym, ap, ◌∙◌, subst, arith}
 use Rattle.std.proofs.lemmas.Bool.{and_parts, both_ways}
-use Rattle.std.proofs.lemmas.Slice.Eq.{bytes_eq-Decides}
-use Rattle.std.specs.Prelude.{cond, slice_get, ◌&&◌, ◌||◌}
-use Rattle.std.specs.Str.{bytes_eq}
+use Rattle.std.specs.Prelude.{slice_get, ◌&&◌, ◌||◌}
 use Rattle.dg_base.specs.declared.Place.{Place}
 use Rattle.c_tree.specs.declared.expr.Expr.{Expr, fold-roll-Expr, map-Expr, out-Expr, roll-out-Expr}
 use Rattle.c_tree.specs.declared.expr.Expr.TheOpen.{Expr-F}
@@ -17,7 +15,7 @@ use Rattle.c_check.specs.declared.sections.Inside.{Inside}
 use Rattle.c_check.specs.declared.sections.Inside.TheVariants.{Outside, InSection}
 use Rattle.c_check.specs.declared.sections.Mark.{Mark}
 use Rattle.c_check.specs.declared.sections.Mark.TheVariants.{Begins, Ends, Neither}
-use Rattle.c_check.specs.Sections.{is_outside, behind_mark, begin_name, end_name, mark_in, first_mark, mark_in_option, mark_in_for, Sectioned, is_marked, some_marked, unmarked, broken_there, in_block, in_a_loop, section_step, sectioned, unmatched_in_function}
+use Rattle.c_check.specs.Sections.{is_outside, behind_mark, begin_name, end_name, mark_in, first_mark, mark_in_option, mark_in_for, Sectioned, some_marked, unmarked, broken_there, in_block, in_a_loop, section_step, sectioned, unmatched_in_function}
 use Rattle.run_model.specs.Calls.{Setting, function_named}
 use Rattle.run_model.specs.Threads.{is_atomic}
 use Rattle.loop_unroll.specs.declared.targets.Targets.{Targets}
@@ -26,7 +24,7 @@ use Rattle.emit_steps.specs.Pieces.{Piece, Context, eval, call, expr_step, piece
 use Rattle.emit_steps.specs.Calling.{parameters, in_section, call_body, with_function}
 use Rattle.loop_unroll.specs.Stating.{Body, sequence, either, give, loop, eval_if, declare_all, begin_for, targets, stmt_step, execute, execute_all, statements, run_body, context_within}
 use Rattle.emit_steps.proofs.Growth.{Each, One, IsGuardOf, Neat}
-use Rattle.emit_steps.proofs.Marks.{both_none, holds_at}
+use Rattle.emit_steps.proofs.Marks.{both_none, holds_at, begin_call, end_call, rest_marked}
 use Rattle.emit_steps.proofs.Adding.{Since, Adds, since_under, adds_pure, adds_then, adds_cond, adds_fresh, adds_copy, adds_mark, adds_stop}
 use Rattle.emit_steps.proofs.AddingForms.{Opened, opens_section, closes_section, since_more}
 use Rattle.emit_steps.proofs.AddingExprs.{AddsCalls}
@@ -182,11 +180,6 @@ module _ (cx : Context) (calls : AddsCalls cx) (marks : NoMarks cx.setting) wher
       (behind_under (k ∷ g ∷ []) (g ∷ []) (record e { depth = d }) (record f { depth = d }) j neat (λ l one. inr one) (behind_lowered (g ∷ []) e f j d deep first))
       (λ l one. one_of k j g (record e { depth = d }) (record f { depth = d }) l first.out one) inner
 
-  rest_marked : (q : Mark) (b : Bool) → (is_marked q || b) ≡ true → q ≡ Neither → b ≡ true
-  rest_marked (Begins p) b h is = absurd (let no : Begins p ≡ Neither = is in cc)
-  rest_marked (Ends p) b h is = absurd (let no : Ends p ≡ Neither = is in cc)
-  rest_marked Neither b h is = h
-
   pub sequenced : (ss : List Stmt) → Sounds ss → Sequence ss
   sequenced [] h = record {
     closed = λ i whole t g. adds_left (g ∷ []) (pure g) (guard_is (g ∷ []) g (inl refl));
@@ -218,22 +211,12 @@ module _ (cx : Context) (calls : AddsCalls cx) (marks : NoMarks cx.setting) wher
       subst (λ k. (call cx p k ms (function_named cx.setting k) g e).1 ≡ (end_section e).1) same
       (subst (λ (o : Option ℕ). (call cx p end_name ms o g e).1 ≡ (end_section e).1) (sym marks.ends) refl)
 
-  begin_call : (p q : Place) (n : Name) (b c : Bool) → bytes_eq begin_name n ≡ b → cond b (Begins p) (cond c (Ends p) Neither) ≡ Begins q → begin_name ≡ n
-  begin_call p q n true c is h = (bytes_eq-Decides begin_name n).0 is
-  begin_call p q n false true is h = absurd (let no : Ends p ≡ Begins q = h in cc)
-  begin_call p q n false false is h = absurd (let no : Neither ≡ Begins q = h in cc)
-
-  end_call : (p q : Place) (n : Name) (b c : Bool) → bytes_eq end_name n ≡ c → cond b (Begins p) (cond c (Ends p) Neither) ≡ Ends q → end_name ≡ n
-  end_call p q n true c is h = absurd (let no : Begins p ≡ Ends q = h in cc)
-  end_call p q n false true is h = (bytes_eq-Decides end_name n).0 is
-  end_call p q n false false is h = absurd (let no : Neither ≡ Ends q = h in cc)
-
   begin_at : (z : Expr-F Expr) (q : Place) (g : ℕ) (e : Emitted) → mark_in z ≡ Begins q → ((expr_step cx (map-Expr Expr Piece (piece cx) z)).run g e).1 ≡ (begin_section g e).1
-  begin_at (Expr-F.Call p n ys) q g e h = begin_named p n (map (piece cx) ys) g e (begin_call p q n (bytes_eq begin_name n) (bytes_eq end_name n) refl h)
+  begin_at (Expr-F.Call p n ys) q g e h = begin_named p n (map (piece cx) ys) g e (begin_call p q n h)
   begin_at _ q g e h = absurd (let no : Neither ≡ Begins q = h in cc)
 
   end_at : (z : Expr-F Expr) (q : Place) (g : ℕ) (e : Emitted) → mark_in z ≡ Ends q → ((expr_step cx (map-Expr Expr Piece (piece cx) z)).run g e).1 ≡ (end_section e).1
-  end_at (Expr-F.Call p n ys) q g e h = end_named p n (map (piece cx) ys) g e (end_call p q n (bytes_eq begin_name n) (bytes_eq end_name n) refl h)
+  end_at (Expr-F.Call p n ys) q g e h = end_named p n (map (piece cx) ys) g e (end_call p q n h)
   end_at _ q g e h = absurd (let no : Neither ≡ Ends q = h in cc)
 
   eval_out : (x : Expr) (g : ℕ) (e : Emitted) → eval cx x g e ≡ (expr_step cx (map-Expr Expr Piece (piece cx) (out-Expr x))).run g e

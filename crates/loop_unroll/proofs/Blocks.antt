@@ -1,5 +1,5 @@
 -- The statements of a block in turn, with the sections among them, do what the thread does.
-use Rattle.std.proofs.Common.{◌≡◌, ℕ, zero, suc, ◌+◌, ◌-◌, inl, inr, List, [], ◌∷◌, Bool, true, false, None, map, refl, sym, ◌∙◌, subst, arith}
+use Rattle.std.proofs.Common.{◌≡◌, ℕ, zero, suc, ◌+◌, ◌-◌, inl, inr, List, [], ◌∷◌, true, false, None, map, refl, sym, ◌∙◌, subst, arith}
 use Rattle.std.proofs.lemmas.Bool.{and_parts, both_ways}
 use Rattle.std.specs.Prelude.{◌&&◌, ◌||◌}
 use Rattle.c_tree.specs.declared.stmt.Stmt.{Stmt}
@@ -8,7 +8,7 @@ use Rattle.c_check.specs.declared.sections.Inside.{Inside}
 use Rattle.c_check.specs.declared.sections.Inside.TheVariants.{InSection}
 use Rattle.c_check.specs.declared.sections.Mark.{Mark}
 use Rattle.c_check.specs.declared.sections.Mark.TheVariants.{Begins, Ends, Neither}
-use Rattle.c_check.specs.Sections.{is_outside, behind_mark, is_marked, some_marked, broken_there, in_block, sectioned}
+use Rattle.c_check.specs.Sections.{is_outside, behind_mark, some_marked, broken_there, in_block, sectioned}
 use Rattle.run_model.specs.declared.state.Ending.{Ending}
 use Rattle.run_model.specs.declared.state.Flow.{Flow}
 use Rattle.run_model.specs.declared.state.Flow.TheVariants.{Next as Onward, Broke, Continued, Returned}
@@ -23,7 +23,7 @@ use Rattle.emit_steps.specs.Emitting.{Emitted, none, open_section, begin_section
 use Rattle.emit_steps.specs.Pieces as pieces
 use Rattle.loop_unroll.specs.Stating.{sequence, inside, execute, execute_all}
 use Rattle.emit_steps.proofs.Growth.{Neat, Grown}
-use Rattle.emit_steps.proofs.Marks.{both_none, holds_at}
+use Rattle.emit_steps.proofs.Marks.{both_none, holds_at, rest_marked}
 use Rattle.emit_steps.proofs.Adding.{Since}
 use Rattle.emit_steps.proofs.AddingForms.{Opened, opens_section, closes_section}
 use Rattle.emit_steps.proofs.AddingExprs.{AddsCalls}
@@ -242,11 +242,6 @@ module _ (m : Machine) where
         let there : Reaches f m.last = reaches_deep f m.last (f.depth - 1) (reaches_before (f.opened ∷ h ∷ []) low (emitted ys t h f).1 m.last (behind_grown (f.opened ∷ h ∷ []) low (emitted ys t h f).1 (emitted ys t h f).0 more) reach) in
         inner y ys i t g e u s (model.execute rc (stmt y) s) rest both.1 (follows refl) apart deep behind ready reach (((stays rc runs (stmt y)).plain InSection both.0).at s)
         ((part y InSection both.0).live t apart (Value g 1 ∷ []) g (inl (refl, refl)) e u s ready.beside there ready.holds ready.marked)
-
-    rest_marked : (q : Mark) (b : Bool) → (is_marked q || b) ≡ true → q ≡ Neither → b ≡ true
-    rest_marked (Begins p) b h is = absurd (let no : Begins p ≡ Neither = is in cc)
-    rest_marked (Ends p) b h is = absurd (let no : Ends p ≡ Neither = is in cc)
-    rest_marked Neither b h is = h
 
     pub sim_sequence : (ys : List Part) → SimSequence ys
     sim_sequence [] = record {

@@ -40,13 +40,13 @@ use Rattle.emit_steps.specs.Pieces as pieces
 use Rattle.emit_steps.specs.Pieces.{write}
 use Rattle.emit_steps.specs.Calling.{enter}
 use Rattle.loop_unroll.specs.Stating.{Body, take_cells, store_value, store_values, first_values, declare_one, declare_all, begin_for}
-use Rattle.emit_steps.proofs.Growth.{Plain, plain_below, Neat, Grown}
+use Rattle.emit_steps.proofs.Growth.{Plain, plain_below}
 use Rattle.emit_steps.proofs.Marks.{both_none}
 use Rattle.emit_steps.proofs.Adding.{Since, since_none, adds_fresh, adds_emit, adds_nothing, adds_then}
-use Rattle.loop_unroll.proofs.AddingBodies.{Behind, among_append, stacked_append, grown_scoped}
+use Rattle.loop_unroll.proofs.AddingBodies.{Behind, among_append}
 use Rattle.emit_steps.proofs.AddingExprs.{AddsCalls}
 use Rattle.loop_unroll.proofs.AddingStatements.{AddsScope, scope_adds, scope_then, scope_guard, scope_behind, adds_declare_one}
-use Rattle.emit_steps.proofs.Running.{local_other, Among, among_within, values_from, Matches, constants_kept, Reaches, reaches_before, plain_in_end, Machine, Safe, Beside, Kept, ending_of, WentOver, WentShort, Follows, ran_over, ran_short}
+use Rattle.emit_steps.proofs.Running.{local_other, Among, among_within, values_from, Matches, constants_kept, Reaches, reaches_before, plain_in_end, Machine, Safe, Beside, Kept, ending_of, WentOver, WentShort, Follows, ran_over, ran_short, beside_dead}
 use Rattle.emit_steps.proofs.Simulating.{Long, Value, Points, Declared, Held, ValueAt, Holds, Val, Done, kept_none, In, in_holds, Sees, sees_holds, Sim, sim_then, next_value, next_done, sim_pure, sim_also, sim_same, go_on_twice, ran_made, beside_next, few_kept, wrote}
 use Rattle.emit_steps.proofs.VariableCells.{length_values, with_next, matches_written, among_there}
 use Rattle.emit_steps.proofs.Acting.{sim_write}
@@ -54,6 +54,8 @@ use Rattle.emit_steps.proofs.Evaluating.{SimPiece}
 use Rattle.loop_unroll.proofs.Flows.{written, Marked, Flowed, SimBody, holds_grown, kept_grown, flow_before, same_length}
 use Rattle.loop_unroll.proofs.Leaving.{holds_free, kept_more, marked_kept}
 use Rattle.loop_unroll.proofs.Looping.{SimValue}
+use Rattle.loop_unroll.proofs.Blocks.{behind_grown}
+use Rattle.loop_unroll.proofs.Entering.{beside_entered}
 
 -- ---- new variables
 
@@ -62,12 +64,6 @@ zeros_from : (f : ℕ → ℕ) (first n : ℕ) → ((l : ℕ) → first ≤ l �
 zeros_from f first zero h = refl
 zeros_from f first (suc n) h =
     ap (λ x. x ∷ replicate n 0) (sym (h first (omega arith) (omega arith))) ∙ ap (λ xs. f first ∷ xs) (zeros_from f (first + 1) n (λ l a b. h l (omega arith) (omega arith)))
-
-matches_last : (f : ℕ → ℕ) (vs : List Variable) (ls : List Local) (v : Variable) (l : Local) → Matches f vs ls → v.name ≡ l.name → v.unsigned ≡ l.unsigned → l.cells ≡ values_from f v.first v.count → Matches f (vs ++ v ∷ []) (ls ++ l ∷ [])
-matches_last f [] [] v l m name unsigned same = (name, unsigned, same, tt)
-matches_last f [] (k ∷ ls) v l m name unsigned same = absurd m
-matches_last f (w ∷ vs) [] v l m name unsigned same = absurd m
-matches_last f (w ∷ vs) (k ∷ ls) v l m name unsigned same = (m.0, m.1, m.2, matches_last f vs ls v l m.3 name unsigned same)
 
 -- a cell that a variable does not have is not written
 no_cell_written : (f : ℕ → ℕ) (vs : List Variable) (ls : List Local) (i j x : ℕ) (v : Variable) → Matches f vs ls → slice_get vs i ≡ Some v → v.count ≤ j → cells.with_cell ls i j x ≡ ls
@@ -86,40 +82,19 @@ module _ (m : Machine) where
   new_apart e v l first low apart (inr (inl new)) = absurd (omega (arith, first, new.0))
   new_apart e v l first low apart (inr (inr off)) = off
 
-  new_plain : (e f : Emitted) (v : Variable) (l : ℕ) → ((k : ℕ) → Among e.scope k → Plain m.last.numbers k) → Neat e → Reaches f m.last → f.numbers ≡ e.numbers → v.first ≡ e.next → v.first + v.count ≤ f.next → Among e.scope l ⊎ Among (v ∷ []) l → Plain m.last.numbers l
-  new_plain e f v l plain neat reach same first room (inl old) = plain l old
-  new_plain e f v l plain neat reach same first room (inr (inl new)) =
-      plain_in_end f m.last l reach (omega (arith, new.1, room)) (subst (λ ns. Plain ns l) (sym same) (plain_below e.numbers l e.next (omega (arith, first, new.0)) neat))
-  new_plain e f v l plain neat reach same first room (inr (inr off)) = absurd off
-
   -- a variable comes into scope whose cells were not used: the thread has a local more, whose cells are 0
   pub entered_beside :
       (w : TypeWord) (name : Name) (n : ℕ) (e : Emitted) (u : FlatState) (s : State) → Beside m e u s → Reaches (enter w name e.next n (fresh_cells n e).1).1 m.last →
       Beside m (enter w name e.next n (fresh_cells n e).1).1 u (record s { locals = s.locals ++ record { name = name; unsigned = word_unsigned w; cells = replicate n 0 } ∷ [] })
   entered_beside w name n e u s b reach =
-      let f : Emitted = (enter w name e.next n (fresh_cells n e).1).1 in
+      let f : Emitted = (fresh_cells n e).1 in
       let v : Variable = record { name = name; unsigned = word_unsigned w; first = e.next; count = n } in
-      let zeros : replicate n 0 ≡ values_from u.values e.next n = zeros_from u.values e.next n (λ l low high. b.idle l low (plain_in_end f m.last l reach high (plain_below e.numbers l e.next low b.neat))) in
-      record {
-        ran = b.ran;
-        base = omega (arith, b.base);
-        neat = ((adds_fresh [] n).add e b.neat).neat;
-        stacked = stacked_append 5 e.scope e.next (v ∷ []) (e.next + n) b.stacked (omega arith, omega arith);
-        plain = λ l a. new_plain e f v l b.plain b.neat reach refl refl (omega arith) (among_append e.scope (v ∷ []) l a);
-        constants = b.constants;
-        idle = λ l le plain. b.idle l (omega (arith, le)) plain;
-        matches = matches_last u.values e.scope s.locals v (record { name = name; unsigned = word_unsigned w; cells = replicate n 0 }) b.matches refl refl zeros;
-        creates = b.creates;
-        few = b.few;
-        numbered = b.numbered;
-        depth = b.depth;
-        opened = λ deep.
-            let safe : Safe e e.opened = (b.opened deep).0 in
-            (record { used = omega (arith, safe.used); apart = λ a. new_apart e v e.opened refl safe.used safe.apart (among_append e.scope (v ∷ []) e.opened a); other = safe.other }, (b.opened deep).1);
-        script = b.script;
-        used = b.used;
-        actions = b.actions;
-      }
+      let since : Since [] e f = (adds_fresh [] n).add e b.neat in
+      let reach_f : Reaches f m.last = record { numbers = reach.numbers; numbers_behind = reach.numbers_behind; numbers_above = reach.numbers_above; created = reach.created; created_behind = reach.created_behind } in
+      let plain : (l : ℕ) → e.next ≤ l → l < e.next + n → Plain m.last.numbers l = λ l low high. plain_in_end f m.last l reach_f high (plain_below e.numbers l e.next low b.neat) in
+      beside_entered m f u s v (record { name = name; unsigned = word_unsigned w; cells = replicate n 0 }) (beside_dead m [] e f u s since reach_f b (λ l off. absurd off))
+      (record { behind = b.stacked; used = omega arith; plain = plain; opened = λ deep low high. let safe : Safe e e.opened = (b.opened deep).0 in absurd (omega (arith, safe.used, low)) })
+      refl refl (zeros_from u.values e.next n (λ l low high. b.idle l low (plain l low high)))
 
   -- ---- scopes that grow
 
@@ -143,15 +118,12 @@ module _ (m : Machine) where
   grew_before gs e f u w i (machine.Halts (halt.Over x) s) b kept g = g
   grew_before gs e f u w i (machine.Halts (halt.Short n) s) b kept g = g
 
-  grown_behind : (gs : List ℕ) (e f : Emitted) (h : ℕ) → Behind gs e f h → Grown gs e f
-  grown_behind gs e f h b = grown_scoped gs e (record f { scope = e.scope }) e.scope f.scope b.since.grown
-
   grew_then :
       (gs hs : List ℕ) (e f i : Emitted) (u : FlatState) (k : Step (Unit {0})) (o : Outcome (Unit {0})) → Behind gs e f none → Behind hs f i none → ((w : FlatState) (r : State) → Beside m f w r → Kept [] e u w → Grew f w i (k r)) → Grew e u f o →
       Grew e u i (machine.go_on o (λ _. k))
   grew_then gs hs e f i u k (machine.Goes v r) first rest next g = grew_before gs e f u g.state i (k r) first g.kept (next g.state r g.beside g.kept)
-  grew_then gs hs e f i u k (machine.Halts (halt.Over x) r) first rest next g = record { state = g.state; over = ran_over m hs f i (ending_of x) g.state (grown_behind hs f i none rest) g.over; used = g.used; actions = g.actions }
-  grew_then gs hs e f i u k (machine.Halts (halt.Short n) r) first rest next g = record { state = g.state; short = ran_short m hs f i g.state (grown_behind hs f i none rest) g.short }
+  grew_then gs hs e f i u k (machine.Halts (halt.Over x) r) first rest next g = record { state = g.state; over = ran_over m hs f i (ending_of x) g.state (behind_grown hs f i none rest) g.over; used = g.used; actions = g.actions }
+  grew_then gs hs e f i u k (machine.Halts (halt.Short n) r) first rest next g = record { state = g.state; short = ran_short m hs f i g.state (behind_grown hs f i none rest) g.short }
 
   pub scope_nothing : SimScope (λ g. nothing) machine.nothing
   scope_nothing = record {
@@ -168,7 +140,7 @@ module _ (m : Machine) where
         let first : Behind (g ∷ []) e f none = (ha.adds g).add e beside.neat in
         let rest : Behind (g ∷ []) f i none = (hb.adds g).add f first.since.neat in
         grew_then (g ∷ []) (g ∷ []) e f i u sb (sa s) first rest (λ w r b_f kept. hb.live held g there f w r b_f reach (holds_grown (g ∷ []) [] e f none u w held first kept holds))
-        (ha.live held g there e u s beside (reaches_before (g ∷ []) f i m.last (grown_behind (g ∷ []) f i none rest) reach) holds);
+        (ha.live held g there e u s beside (reaches_before (g ∷ []) f i m.last (behind_grown (g ∷ []) f i none rest) reach) holds);
   }
 
   value_done : (e : Emitted) (u : FlatState) (f : Emitted) (a : ℕ) (o : Outcome ℕ) → Follows (Val []) m [] e u (a, f) o → Grew e u f (machine.go_on o (λ _. machine.nothing))
@@ -212,8 +184,8 @@ module _ (m : Machine) where
       (t : Targets) (gs hs : List ℕ) (e f : Emitted) (u : FlatState) (i : ℕ × Emitted) (k : Step Flow) (o : Outcome (Unit {0})) → Behind gs e f none → Behind hs f i.1 i.0 → ((w : FlatState) (r : State) → Beside m f w r → Kept [] e u w → Flowed m t f w i (k r)) → Grew e u f o →
       Flowed m t e u i (machine.go_on o (λ _. k))
   grew_then_flow t gs hs e f u i k (machine.Goes v r) first rest next w = flow_before m gs t e f none u w.state i (k r) first (kept_more (written t) e u w.state w.kept) (next w.state r w.beside w.kept)
-  grew_then_flow t gs hs e f u i k (machine.Halts (halt.Over x) r) first rest next w = record { state = w.state; over = ran_over m hs f i.1 (ending_of x) w.state (grown_behind hs f i.1 i.0 rest) w.over; used = w.used; actions = w.actions }
-  grew_then_flow t gs hs e f u i k (machine.Halts (halt.Short n) r) first rest next w = record { state = w.state; short = ran_short m hs f i.1 w.state (grown_behind hs f i.1 i.0 rest) w.short }
+  grew_then_flow t gs hs e f u i k (machine.Halts (halt.Over x) r) first rest next w = record { state = w.state; over = ran_over m hs f i.1 (ending_of x) w.state (behind_grown hs f i.1 i.0 rest) w.over; used = w.used; actions = w.actions }
+  grew_then_flow t gs hs e f u i k (machine.Halts (halt.Short n) r) first rest next w = record { state = w.state; short = ran_short m hs f i.1 w.state (behind_grown hs f i.1 i.0 rest) w.short }
 
   -- a statement behind it, in the scope that grew
   pub scope_before : (em : ℕ → Emit (Unit {0})) (st : Step (Unit {0})) (b : Body) (sb : Step Flow) → SimScope em st → SimBody m b sb → SimBody m (λ t g. em g >> b t g) (machine.◌>>◌ st sb)
@@ -225,7 +197,7 @@ module _ (m : Machine) where
         let rest : Behind (g ∷ []) f (b t g f).1 (b t g f).0 = (hb.adds t g).add f first.since.neat in
         grew_then_flow t (g ∷ []) (g ∷ []) e f u (b t g f) sb (st s) first rest
         (λ w r b_f kept. hb.live t d held g there f w r b_f reach (holds_grown (g ∷ []) (written t) e f none u w held first (kept_more (written t) e u w kept) holds) (marked_kept t e u w held 0 0 0 holds kept is))
-        (h.live held g there e u s beside (reaches_before (g ∷ []) f (b t g f).1 m.last (grown_behind (g ∷ []) f (b t g f).1 (b t g f).0 rest) reach) (holds_free (written t) e u held holds));
+        (h.live held g there e u s beside (reaches_before (g ∷ []) f (b t g f).1 m.last (behind_grown (g ∷ []) f (b t g f).1 (b t g f).0 rest) reach) (holds_free (written t) e u held holds));
   }
 
   -- ---- first values

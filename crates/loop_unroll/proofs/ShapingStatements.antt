@@ -1,5 +1,5 @@
 -- What is emitted for statements whose sections stand as they should is laid.
-use Rattle.std.proofs.Common.{◌≡◌, ℕ, zero, suc, ◌+◌, ◌-◌, ◌<◌, ◌≤◌, inl, List, [], ◌∷◌, map, Bool, true, false, Option, Some, None, refl, sym, ap, ◌∙◌, subst, arith}
+use Rattle.std.proofs.Common.{◌≡◌, ℕ, zero, suc, ◌+◌, ◌-◌, ◌<◌, ◌≤◌, inl, List, [], ◌∷◌, map, true, false, Option, Some, None, refl, sym, ap, ◌∙◌, subst, arith}
 use Rattle.std.proofs.lemmas.Bool.{and_parts, both_ways}
 use Rattle.std.specs.Prelude.{slice_get, ◌&&◌, ◌||◌}
 use Rattle.c_tree.specs.declared.expr.Expr.{Expr}
@@ -13,7 +13,7 @@ use Rattle.c_check.specs.declared.sections.Inside.{Inside}
 use Rattle.c_check.specs.declared.sections.Inside.TheVariants.{Outside, InSection}
 use Rattle.c_check.specs.declared.sections.Mark.{Mark}
 use Rattle.c_check.specs.declared.sections.Mark.TheVariants.{Begins, Ends, Neither}
-use Rattle.c_check.specs.Sections.{is_outside, behind_mark, first_mark, mark_in_option, mark_in_for, Sectioned, is_marked, some_marked, unmarked, broken_there, in_block, in_a_loop, section_step, sectioned, unmatched_in_function}
+use Rattle.c_check.specs.Sections.{is_outside, behind_mark, first_mark, mark_in_option, mark_in_for, Sectioned, some_marked, unmarked, broken_there, in_block, in_a_loop, section_step, sectioned, unmatched_in_function}
 use Rattle.run_model.specs.Calls.{Setting}
 use Rattle.run_model.specs.Threads.{is_atomic}
 use Rattle.flat_prog.specs.declared.FlatAct.TheVariants as act
@@ -21,7 +21,7 @@ use Rattle.emit_steps.specs.Emitting.{Emitted, Emit, ◌>>=◌, ◌>>◌, pure, 
 use Rattle.emit_steps.specs.Pieces.{Context, eval}
 use Rattle.emit_steps.specs.Calling.{parameters, in_section, call_body, with_function}
 use Rattle.emit_steps.proofs.Growth.{Each}
-use Rattle.emit_steps.proofs.Marks.{both_none, holds_at}
+use Rattle.emit_steps.proofs.Marks.{both_none, holds_at, rest_marked}
 use Rattle.emit_steps.proofs.AddingExprs.{AddsCalls}
 use Rattle.emit_steps.proofs.Laying.{Stretch, Site, Out, In}
 use Rattle.emit_steps.proofs.Shaping.{Spare, Laid, Since, Does, bind, bind_at, since_then, does_pure, does_cond, Any, Low, Fresh, Guard, low_later, spare_later, guard_later, fresh_guard, fresh_spare, none_guard, does_fresh, does_copy, does_mark, does_when, does_unless, does_join, does_stop, does_ask}
@@ -250,11 +250,6 @@ module _ (cells first : ℕ) where
         let it : Since cells first s (record f { depth = d }) (execute_all cx ss t j f).1 × Next cells first s t (execute_all cx ss t j f).0 (execute_all cx ss t j f).1 =
         rest.opened_there i both.1 (follows refl) s t j o k d f (m.since.depth ∙ deep_is) deep m.since.laid m.gives.guard (guard_later cells first r r e f o m.since own) (targets_later cells first r r e f t m.since tf) m.gives.apart in
         (since_then cells first r s (record e { depth = d }) (record f { depth = d }) (execute_all cx ss t j f).1 (since_lowered r e f d m.since) it.0, it.1)
-
-    rest_marked : (q : Mark) (b : Bool) → (is_marked q || b) ≡ true → q ≡ Neither → b ≡ true
-    rest_marked (Begins p) b h is = absurd (let off : Begins p ≡ Neither = is in cc)
-    rest_marked (Ends p) b h is = absurd (let off : Ends p ≡ Neither = is in cc)
-    rest_marked Neither b h is = h
 
     sequenced : (ss : List Stmt) → ShapedAll ss → Sequence ss
     sequenced [] hs = record {

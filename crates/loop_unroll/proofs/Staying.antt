@@ -2,9 +2,7 @@
 -- and an end of a section do there.
 use Rattle.std.proofs.Common.{◌≡◌, ℕ, zero, suc, List, [], ◌∷◌, Option, Some, None, Bool, true, false, map, length, take, refl, sym, ap, ◌∙◌, subst}
 use Rattle.std.proofs.lemmas.Bool.{both_ways}
-use Rattle.std.proofs.lemmas.Slice.Eq.{bytes_eq-Decides}
 use Rattle.std.specs.Prelude.{cond}
-use Rattle.std.specs.Str.{bytes_eq}
 use Rattle.dg_base.specs.declared.Place.{Place}
 use Rattle.dg_base.specs.Values.{is_true}
 use Rattle.c_tree.specs.declared.expr.Expr.{Expr, fold-roll-Expr, map-Expr, out-Expr, roll-out-Expr}
@@ -26,7 +24,7 @@ use Rattle.run_model.specs.Steps as machine
 use Rattle.run_model.specs.Calls.{Meaning, Context, function_named, spend}
 use Rattle.run_model.specs.Meaning.{call, expr_step, meaning, eval}
 use Rattle.run_model.specs.Statements.{then_next, scoped, after_body, loop, do_loop, eval_if, turns, stmt_step, execute, execute_all}
-use Rattle.emit_steps.proofs.Marks.{both_none, holds_at}
+use Rattle.emit_steps.proofs.Marks.{both_none, holds_at, begin_call, end_call}
 use Rattle.loop_unroll.proofs.AddingFunctions.{NoMarks}
 
 -- ---- how control may leave
@@ -144,22 +142,12 @@ module _ (cx : Context) (marks : NoMarks cx.setting) where
       subst (λ k. call cx p k ms (function_named cx.setting k) s ≡ machine.◌>>◌ machine.end_section (machine.pure {A = ℕ} 0) s) same
       (subst (λ (o : Option ℕ). call cx p end_name ms o s ≡ machine.◌>>◌ machine.end_section (machine.pure {A = ℕ} 0) s) (sym marks.ends) refl)
 
-  begin_call : (p q : Place) (n : Name) (b c : Bool) → bytes_eq begin_name n ≡ b → cond b (Begins p) (cond c (Ends p) Neither) ≡ Begins q → begin_name ≡ n
-  begin_call p q n true c is h = (bytes_eq-Decides begin_name n).0 is
-  begin_call p q n false true is h = absurd (let no : Ends p ≡ Begins q = h in cc)
-  begin_call p q n false false is h = absurd (let no : Neither ≡ Begins q = h in cc)
-
-  end_call : (p q : Place) (n : Name) (b c : Bool) → bytes_eq end_name n ≡ c → cond b (Begins p) (cond c (Ends p) Neither) ≡ Ends q → end_name ≡ n
-  end_call p q n true c is h = absurd (let no : Begins p ≡ Ends q = h in cc)
-  end_call p q n false true is h = (bytes_eq-Decides end_name n).0 is
-  end_call p q n false false is h = absurd (let no : Neither ≡ Ends q = h in cc)
-
   begin_at : (z : Expr-F Expr) (q : Place) (s : State) → mark_in z ≡ Begins q → (expr_step cx (map-Expr Expr Meaning (meaning cx) z)).run s ≡ machine.◌>>◌ machine.begin_section (machine.pure {A = ℕ} 0) s
-  begin_at (Expr-F.Call p n ys) q s h = begin_named p n (map (meaning cx) ys) s (begin_call p q n (bytes_eq begin_name n) (bytes_eq end_name n) refl h)
+  begin_at (Expr-F.Call p n ys) q s h = begin_named p n (map (meaning cx) ys) s (begin_call p q n h)
   begin_at _ q s h = absurd (let no : Neither ≡ Begins q = h in cc)
 
   end_at : (z : Expr-F Expr) (q : Place) (s : State) → mark_in z ≡ Ends q → (expr_step cx (map-Expr Expr Meaning (meaning cx) z)).run s ≡ machine.◌>>◌ machine.end_section (machine.pure {A = ℕ} 0) s
-  end_at (Expr-F.Call p n ys) q s h = end_named p n (map (meaning cx) ys) s (end_call p q n (bytes_eq begin_name n) (bytes_eq end_name n) refl h)
+  end_at (Expr-F.Call p n ys) q s h = end_named p n (map (meaning cx) ys) s (end_call p q n h)
   end_at _ q s h = absurd (let no : Neither ≡ Ends q = h in cc)
 
   eval_out : (x : Expr) (s : State) → eval cx x s ≡ (expr_step cx (map-Expr Expr Meaning (meaning cx) (out-Expr x))).run s
