@@ -107,9 +107,9 @@ module _ (m : Machine) where
       let since : Since (z ∷ []) F F5 = since_scoped (z ∷ []) f f5 vs left.since in
       let joins : Since (h ∷ k ∷ []) f5 i = (adds_join (h ∷ k ∷ []) h k (inl refl) (inr (inl refl))).add f5 left.since.neat in
       let reach5 : Reaches f5 m.last = reaches_before (h ∷ k ∷ []) f5 i m.last joins.grown reach in
-      let R5 : Reaches F5 m.last = record { numbers = reach5.numbers; numbers_behind = reach5.numbers_behind; numbers_above = reach5.numbers_above; created = reach5.created; created_behind = reach5.created_behind } in
+      let r5 : Reaches F5 m.last = record { numbers = reach5.numbers; numbers_behind = reach5.numbers_behind; numbers_above = reach5.numbers_above; created = reach5.created; created_behind = reach5.created_behind } in
       let RI : Reaches (join_guards h k F5).1 m.last = record { numbers = reach.numbers; numbers_behind = reach.numbers_behind; numbers_above = reach.numbers_above; created = reach.created; created_behind = reach.created_behind } in
-      let b5 : Beside m F5 w.state s = beside_dead m (z ∷ []) F F5 w.state s since R5 w.beside (λ l one. off_at z l w.state off_z one) in
+      let b5 : Beside m F5 w.state s = beside_dead m (z ∷ []) F F5 w.state s since r5 w.beside (λ l one. off_at z l w.state off_z one) in
       let off_k : w.state.values k ≡ 0 = guard_zero m (z ∷ []) f f5 w.state k reach5 w.beside.idle w.beside.constants.none (λ l one. off_at z l w.state off_z one) left.out in
       let both : Beside m (join_guards h k F5).1 w.state s × (w.state.values f5.next ≡ 0) = not_joined F5 w.state s h k b5 RI (guard_off m t f w.state h flow not w.post) off_k in
       record {
