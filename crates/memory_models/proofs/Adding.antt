@@ -1,6 +1,7 @@
 -- The edges that the code adds with one event.
 use Rattle.std.proofs.Common.{◌≡◌, ℕ, ◌+◌, ◌≤◌, inl, inr, Bool, true, false, cond, List, [], ◌∷◌, ◌++◌, length, map, refl, ap, sym, ◌∙◌, subst, arith}
 use Rattle.std.specs.Prelude.{Option, Some, None, Contains}
+use Rattle.std.proofs.lemmas.List.Elements.{Contains-append_left, Contains-append_right, Contains-append_cases}
 use Rattle.dg_base.proofs.Lists.{contains_head, contains_nothing, contains_map, contains_from_map}
 use Rattle.axiom_model.specs.declared.MemoryModel.{MemoryModel}
 use Rattle.axiom_model.specs.declared.MemoryModel.TheVariants.{Sc, Tso, Pso}
@@ -15,7 +16,7 @@ use Rattle.memory_models.specs.Events.{IsAt, OneBlock, AreStatic}
 use Rattle.memory_models.specs.Keeping.{edge, is_access, is_global, globals, fence_globals}
 use Rattle.memory_models.specs.Roles.{role_of, to_strong, to_weak, fenced_to_weak, fence, to_next, cell_edges, AreOut}
 use Rattle.memory_models.specs.Ahead.{Later, IsGood, IsGoodFence, IsBuilt, LiesAhead, FewWeak, AreNext}
-use Rattle.memory_models.proofs.Ways.{contains_left, contains_right, contains_either, contains_one}
+use Rattle.memory_models.proofs.Ways.{contains_one}
 use Rattle.memory_models.proofs.Blocks.{one_event, block_or_not, block_thread}
 use Rattle.memory_models.proofs.Stepping.{IsStep, AtMostTwo}
 use Rattle.memory_models.proofs.Entering.{cell_way}
@@ -111,7 +112,7 @@ fenced_in r g n w ws q c = subst (λ (v : Role). Contains (fenced_to_weak v g n 
 
 good_cell : (m : MemoryModel) (es : List StaticEvent) (n : ℕ) (e : StaticEvent) (next : ℕ → Option ℕ) (fixed : List Edge) (fences : List FenceEdge) (x : Edge) → IsAt es n e → IsBuilt m es (n + 1) fixed fences → AreNext es fixed (Later es n) next → Contains (fixed ++ cell_edges n e next) x → IsGood m es x
 good_cell m es n e next fixed fences x at_n built are_next c =
-    elim (contains_either fixed (cell_edges n e next) x c) [
+    elim (Contains-append_cases fixed (cell_edges n e next) x c) [
       | inl old ↦ built.good x old
       | inr new ↦
           let i = in_cell n (is_access e.kind) (next e.cell) x new in
@@ -126,21 +127,21 @@ step_inner m es n e strong weak next fixed fences are at_n built are_next o =
     let cells = cell_edges n e next in
     let one = edge Global n (n + 1) in
     record {
-      more = λ x c. contains_left (fixed ++ cells) (one ∷ []) x (contains_left fixed cells x c);
+      more = λ x c. Contains-append_left (fixed ++ cells) (one ∷ []) x (Contains-append_left fixed cells x c);
       more_fences = λ g c. c;
       good = λ x c.
-          elim (contains_either (fixed ++ cells) (one ∷ []) x c) [
+          elim (Contains-append_cases (fixed ++ cells) (one ∷ []) x c) [
             | inl old ↦ good_cell m es n e next fixed fences x at_n built are_next old
             | inr new ↦
                 let t : Later es n (n + 1) = (omega arith, block_thread es n (n + 1) are (omega arith) o) in
                 subst (λ (y : Edge). IsGood m es y) (sym (contains_one one x new)) (t, inl o)
           ];
       good_fences = built.good_fences;
-      inner = λ _. contains_right (fixed ++ cells) (one ∷ []) one (contains_head one []);
+      inner = λ _. Contains-append_right (fixed ++ cells) (one ∷ []) one (contains_head one []);
       to_strong = λ apart. absurd (apart o);
       to_weak = λ apart. absurd (apart o);
       to_fenced = λ apart. absurd (apart o);
-      to_next = λ a p q. contains_left (fixed ++ cells) (one ∷ []) (edge Local n p) (contains_right fixed cells (edge Local n p) (cell_in n (is_access e.kind) (next e.cell) p a q));
+      to_next = λ a p q. Contains-append_left (fixed ++ cells) (one ∷ []) (edge Local n p) (Contains-append_right fixed cells (edge Local n p) (cell_in n (is_access e.kind) (next e.cell) p a q));
       few =
           let a = globals_append (fixed ++ cells) (one ∷ []) in
           let b = globals_append fixed cells in
@@ -158,11 +159,11 @@ step_leave m es n e strong weak next fixed fences at_n built ahead are_next apar
     let weaks = to_weak role n weak in
     let fenced = fenced_to_weak role e.guard n weak in
     record {
-      more = λ x c. contains_left (first ++ strongs) weaks x (contains_left first strongs x (contains_left fixed cells x c));
-      more_fences = λ g c. contains_left fences fenced g c;
+      more = λ x c. Contains-append_left (first ++ strongs) weaks x (Contains-append_left first strongs x (Contains-append_left fixed cells x c));
+      more_fences = λ g c. Contains-append_left fences fenced g c;
       good = λ x c.
-          elim (contains_either (first ++ strongs) weaks x c) [
-            | inl front ↦ elim (contains_either first strongs x front) [
+          elim (Contains-append_cases (first ++ strongs) weaks x c) [
+            | inl front ↦ elim (Contains-append_cases first strongs x front) [
               | inl old ↦ good_cell m es n e next fixed fences x at_n built are_next old
               | inr new ↦
                   let s = in_strong n strong x new in
@@ -175,7 +176,7 @@ step_leave m es n e strong weak next fixed fences at_n built ahead are_next apar
                 subst (λ (y : Edge). IsGood m es y) (sym w.1.2) (t, inr (inl (record { event = e; there = at_n; reads = w.0 })))
           ];
       good_fences = λ g c.
-          elim (contains_either fences fenced g c) [
+          elim (Contains-append_cases fences fenced g c) [
             | inl old ↦ built.good_fences g old
             | inr new ↦
                 let w = in_fenced role e.guard n weak g new in
@@ -183,12 +184,12 @@ step_leave m es n e strong weak next fixed fences at_n built ahead are_next apar
                 subst (λ (y : FenceEdge). IsGoodFence m es y) (sym w.1.2) (record { global = refl; goes_on = t; full = record { event = e; there = at_n; fences = w.0 }; ends = apart; guarded = (e, at_n, refl) })
           ];
       inner = λ o. absurd (apart o);
-      to_strong = λ _ s q. contains_left (first ++ strongs) weaks (edge Global n s) (contains_right first strongs (edge Global n s) (strong_in n strong s q));
-      to_weak = λ _ w c q. contains_right (first ++ strongs) weaks (edge Global n w) (weak_in role n w weak q c);
-      to_fenced = λ _ w c q. (fence e.guard n w, contains_right fences fenced (fence e.guard n w) (fenced_in role e.guard n w weak q c), refl);
+      to_strong = λ _ s q. Contains-append_left (first ++ strongs) weaks (edge Global n s) (Contains-append_right first strongs (edge Global n s) (strong_in n strong s q));
+      to_weak = λ _ w c q. Contains-append_right (first ++ strongs) weaks (edge Global n w) (weak_in role n w weak q c);
+      to_fenced = λ _ w c q. (fence e.guard n w, Contains-append_right fences fenced (fence e.guard n w) (fenced_in role e.guard n w weak q c), refl);
       to_next = λ a p q.
           let x = edge Local n p in
-          contains_left (first ++ strongs) weaks x (contains_left first strongs x (contains_right fixed cells x (cell_in n (is_access e.kind) (next e.cell) p a q)));
+          Contains-append_left (first ++ strongs) weaks x (Contains-append_left first strongs x (Contains-append_right fixed cells x (cell_in n (is_access e.kind) (next e.cell) p a q)));
       few =
           let a = globals_append (first ++ strongs) weaks in
           let b = globals_append first strongs in

@@ -3,6 +3,7 @@ use Rattle.std.proofs.Common.{◌≡◌, ℕ, ◌+◌, ◌⊎◌, inl, inr, Bool
 use Rattle.std.specs.Prelude.{Option, Some, None, Contains}
 use Rattle.std.proofs.lemmas.Bool.{cases_lt, cases_Bool, eqb-true, eq-eqb, cond-true, cond-false}
 use Rattle.std.proofs.lemmas.Option.{none-some, same_Some}
+use Rattle.std.proofs.lemmas.List.Elements.{Contains-append_left, Contains-append_right, Contains-append_cases}
 use Rattle.dg_base.proofs.Lists.{contains_head, contains_nothing}
 use Rattle.axiom_model.specs.declared.MemoryModel.{MemoryModel}
 use Rattle.axiom_model.specs.declared.MemoryModel.TheVariants.{Sc, Tso, Pso}
@@ -17,7 +18,7 @@ use Rattle.memory_models.specs.Events.{IsAt, IsOfThread, OneThread}
 use Rattle.memory_models.specs.Keeping.{is_access, OnOneCell}
 use Rattle.memory_models.specs.Roles.{role_of, role_of_kind, is_strong, is_reader, strong_from, weak_from, next_from}
 use Rattle.memory_models.specs.Ahead.{Later, From, Reaches, IsStrong, IsBuilt, LiesAhead, FewWeak, IsAccess, AreNext}
-use Rattle.memory_models.proofs.Ways.{reaches_more, contains_left, contains_right, contains_either, contains_one}
+use Rattle.memory_models.proofs.Ways.{reaches_more, contains_one}
 use Rattle.memory_models.proofs.Blocks.{one_event, thread_joined, thread_turned}
 use Rattle.memory_models.proofs.Fencing.{own_role, reader_is_weak, fence_is_strong}
 use Rattle.memory_models.proofs.Stepping.{served_strong, served_read, role_cases}
@@ -146,7 +147,7 @@ enter_writer : (m : MemoryModel) (es : List StaticEvent) (n : ℕ) (e : StaticEv
 enter_writer m es n e fixed strong weak at_n writes low a = record {
   strong_there = λ s q. let t = a.strong_there s q in (later_from es n s t.0, t.1);
   weak_there = λ w c.
-      elim (contains_either weak (n ∷ []) w c) [
+      elim (Contains-append_cases weak (n ∷ []) w c) [
         | inl old ↦ later_from es n w (a.weak_there w old)
         | inr new ↦ subst (λ (k : ℕ). From es n k) (sym (contains_one n w new)) (here es n e at_n)
       ];
@@ -157,8 +158,8 @@ enter_writer m es n e fixed strong weak at_n writes low a = record {
       ];
   to_weak = λ b f p at own down.
       elim (from_cases es n b p) [
-        | inl q ↦ (n, contains_right weak (n ∷ []) n (contains_head n []), inl (sym q))
-        | inr l ↦ let w = a.to_weak b f l at own down in (w.0, contains_left weak (n ∷ []) w.0 w.1, w.2)
+        | inl q ↦ (n, Contains-append_right weak (n ∷ []) n (contains_head n []), inl (sym q))
+        | inr l ↦ let w = a.to_weak b f l at own down in (w.0, Contains-append_left weak (n ∷ []) w.0 w.1, w.2)
       ];
   few = few_writer m e.kind (weak ++ n ∷ []) (own_role m n e Writer writes (λ q. cc)).1 (sym (ap (λ (r : Role). is_strong m r) writes) ∙ low);
 }

@@ -1,7 +1,7 @@
 -- Ways, and lists of edges that grow.
-use Rattle.std.proofs.Common.{◌≡◌, ℕ, ◌⊎◌, inl, inr, Bool, List, [], ◌∷◌, ◌++◌, sym, subst}
+use Rattle.std.proofs.Common.{◌≡◌, ℕ, inl, inr, Bool, List, [], ◌∷◌, sym, subst}
 use Rattle.std.specs.Prelude.{Contains}
-use Rattle.dg_base.proofs.Lists.{contains_nothing, contains_head, contains_tail, contains_cases}
+use Rattle.dg_base.proofs.Lists.{contains_nothing, contains_cases}
 use Rattle.cnf_problem.specs.declared.problem.Graph.{Graph}
 use Rattle.cnf_problem.specs.declared.problem.Edge.{Edge}
 use Rattle.cnf_problem.specs.Edges.{Path, last, then}
@@ -23,23 +23,6 @@ along E R f t (last {x = x} {y = y} e) = f x y e
 along E R f t (then {x = x} {y = y} {z = z} e p) = t x y z (f x y e) (along E R f t p)
 
 -- ---- lists
-
-pub contains_left : {X : Type 0} (xs ys : List X) (x : X) → Contains xs x → Contains (xs ++ ys) x
-contains_left [] ys x m = absurd (contains_nothing x m)
-contains_left (z ∷ zs) ys x m =
-    elim (contains_cases z x zs m) [ inl e ↦ subst (λ y. Contains (z ∷ (zs ++ ys)) y) (sym e) (contains_head z (zs ++ ys)) | inr h ↦ contains_tail z x (zs ++ ys) (contains_left zs ys x h) ]
-
-pub contains_right : {X : Type 0} (xs ys : List X) (x : X) → Contains ys x → Contains (xs ++ ys) x
-contains_right [] ys x m = m
-contains_right (z ∷ zs) ys x m = contains_tail z x (zs ++ ys) (contains_right zs ys x m)
-
-pub contains_either : {X : Type 0} (xs ys : List X) (x : X) → Contains (xs ++ ys) x → Contains xs x ⊎ Contains ys x
-contains_either [] ys x m = inr m
-contains_either (z ∷ zs) ys x m =
-    elim (contains_cases z x (zs ++ ys) m) [
-      | inl e ↦ inl (subst (λ y. Contains (z ∷ zs) y) (sym e) (contains_head z zs))
-      | inr h ↦ elim (contains_either zs ys x h) [ inl l ↦ inl (contains_tail z x zs l) | inr r ↦ inr r ]
-    ]
 
 pub contains_one : {X : Type 0} (y x : X) → Contains (y ∷ []) x → x ≡ y
 contains_one y x m = elim (contains_cases y x [] m) [ inl e ↦ e | inr h ↦ absurd (contains_nothing x h) ]
