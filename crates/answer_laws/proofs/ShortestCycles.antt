@@ -3,8 +3,9 @@ use Rattle.std.proofs.Common.{◌≡◌, ℕ, zero, suc, ◌+◌, ◌<◌, ◌�
 use Rattle.std.specs.Prelude.{slice_get}
 use Rattle.std.proofs.lemmas.Bool.{cases_order}
 use Rattle.std.proofs.lemmas.Option.{none-some, same_Some}
+use Rattle.dg_base.proofs.Lists.{get_append_left, get_append_cases}
 use Rattle.axiom_model.specs.Cycles.{Chain, Cycle, NoCycle}
-use Rattle.axiom_model.proofs.Places.{place_append, place_left, place_right}
+use Rattle.axiom_model.proofs.Places.{place_right}
 use Rattle.axiom_model.proofs.Turning.{cycle_turn}
 
 -- ---- an element of a list, with what stands before and behind it
@@ -110,8 +111,8 @@ module _ {E : Type 0} (R : E → E → Type 0) (before : E → E → Type 0) (to
           below k u e =
               ⊎_elim
               (λ p. m.below (length m.split.before + k) u (subst (λ l. slice_get l (length m.split.before + k) ≡ Some u) (sym m.split.is) (place_right m.split.before (m.least ∷ m.split.behind) (length m.split.before + k) k u refl p)))
-              (λ p. m.below p.0 u (subst (λ l. slice_get l p.0 ≡ Some u) (sym m.split.is) (place_left m.split.before (m.least ∷ m.split.behind) p.0 u p.2)))
-              (place_append (m.least ∷ m.split.behind) m.split.before k u e)
+              (λ p. m.below p.0 u (subst (λ l. slice_get l p.0 ≡ Some u) (sym m.split.is) (get_append_left m.split.before (m.least ∷ m.split.behind) p.0 u p.2)))
+              (get_append_cases (m.least ∷ m.split.behind) m.split.before k u e)
 
   -- ---- a cycle with two elements that are alike holds a shorter one
 
@@ -143,7 +144,7 @@ module _ {E : Type 0} (R : E → E → Type 0) (before : E → E → Type 0) (to
     shorter (x ∷ l) zero (suc j) v w c d e f s = short_from x l w c (subst (λ u. alike u w) (sym (same_Some x v e)) s) (split_at l j w f)
     shorter (x ∷ l) (suc i) zero v w c d e f s = absurd (omega arith)
     shorter (x ∷ l) (suc i) (suc j) v w c d e f s =
-        let r = shorter (l ++ x ∷ []) i j v w (cycle_turn R (x ∷ []) l c) (omega arith) (place_left l (x ∷ []) i v e) (place_left l (x ∷ []) j w f) s in
+        let r = shorter (l ++ x ∷ []) i j v w (cycle_turn R (x ∷ []) l c) (omega arith) (get_append_left l (x ∷ []) i v e) (get_append_left l (x ∷ []) j w f) s in
         let long = length-append l (x ∷ []) in
         let short = r.short in
         record { list = r.list; cycle = r.cycle; short = omega arith }

@@ -17,7 +17,8 @@ use Rattle.axiom_model.specs.Models.{keeps, Kept, in_thread, in_section, creates
 use Rattle.axiom_model.specs.Models as models
 use Rattle.axiom_model.specs.Orders.{Forward}
 use Rattle.axiom_model.proofs.Acceptance.{accepted-consistent}
-pub use Rattle.axiom_model.proofs.Each.{each_from, each, each_event, list_all_at}
+use Rattle.dg_base.proofs.Lists.{list_all_at}
+pub use Rattle.axiom_model.proofs.Each.{each_from, each, each_event}
 pub use Rattle.axiom_model.proofs.PairTests.{implies, implies_at, is_of, is_of_at, same_thread, same_thread_from, before, before_at, same_option, same_cell, same_cell_at, starts, ends}
 pub use Rattle.axiom_model.proofs.Sections.{opens, same_section, same_section-same_block, one_section-same_section}
 

@@ -1,7 +1,6 @@
 -- Tests of each action of an execution, and what holds of an action where they pass.
 use Rattle.std.proofs.Common.{◌≡◌, ℕ, zero, suc, ◌+◌, List, [], ◌∷◌, Bool, true, false, ◌&&◌, Some, subst, arith, ⊎_elim}
 use Rattle.std.specs.Prelude.{slice_get, nat_eq}
-use Rattle.std.specs.List.{list_all}
 use Rattle.std.proofs.lemmas.Bool.{and_parts, eqb-true, cases_Bool, cond-true, cond-false}
 use Rattle.axiom_model.specs.declared.Action.{Action}
 use Rattle.axiom_model.specs.declared.Event.{Event}
@@ -51,9 +50,3 @@ each_at (u ∷ ts) f t h i a e =
 pub each_event : (x : Execution) (f : Event → Action → Bool) → each x.threads f ≡ true → (e : Event) (a : Action) → action_at x e ≡ Some a → f e a ≡ true
 each_event x f t Initial a h = cc
 each_event x f t (At k i) a h = each_at x.threads f t k i a h
-
--- a test that holds of all items holds of the item at a place
-pub list_all_at : {A : Type 0} (f : A → Bool) (l : List A) → list_all f l ≡ true → (k : ℕ) (p : A) → slice_get l k ≡ Some p → f p ≡ true
-list_all_at f [] t k p h = cc
-list_all_at f (q ∷ l) t zero p h = let same : q ≡ p = cc in subst (λ z. f z ≡ true) same (and_parts _ _ t).0
-list_all_at f (q ∷ l) t (suc k) p h = list_all_at f l (and_parts _ _ t).1 k p h

@@ -4,6 +4,7 @@ use Rattle.std.specs.Prelude.{◌≢◌, slice_get, get_or, nat_eq, nat_lt, All,
 use Rattle.std.specs.List.{list_all}
 use Rattle.std.proofs.lemmas.Bool.{and_parts, and_from, or_cases, eqb-true, eq-eqb, ltb-true, cases_lt}
 use Rattle.std.proofs.lemmas.Option.{slice_get-get_or}
+use Rattle.dg_base.proofs.Lists.{list_all_at}
 use Rattle.axiom_model.specs.declared.Action.{Action}
 use Rattle.axiom_model.specs.declared.Action.TheVariants.{Read, Write, Create, Join}
 use Rattle.axiom_model.specs.declared.Event.{Event}
@@ -11,7 +12,7 @@ use Rattle.axiom_model.specs.declared.Event.TheVariants.{Initial, At}
 use Rattle.axiom_model.specs.declared.RfPair.{RfPair}
 use Rattle.axiom_model.specs.Execution.{Thread, Execution, actions_of, action_at}
 use Rattle.axiom_model.specs.WellMade.{Shape, Writes, SomeThread, ReadsOnce, IsWriteOrder, WellMade}
-use Rattle.axiom_model.proofs.Each.{each, each_event, list_all_at}
+use Rattle.axiom_model.proofs.Each.{each, each_event}
 use Rattle.axiom_model.proofs.PairTests.{same_option}
 
 -- ---- lists

@@ -5,6 +5,7 @@ use Rattle.std.proofs.Math.ListN.{set}
 use Rattle.std.proofs.lemmas.Bool.{cases_eq}
 use Rattle.std.proofs.lemmas.List.{get_or-reverse, length-reverse}
 use Rattle.std.proofs.lemmas.Option.{none-some, same_Some, slice_get_within, slice_get_read, get_or_from_slice_get}
+use Rattle.dg_base.proofs.Lists.{get_append_left, get_append_cases, get_set_same}
 use Rattle.axiom_model.specs.Sorting.{NoRepeats}
 
 -- a place of a list with one more element
@@ -13,21 +14,6 @@ place_push [] x y zero e = inr (refl, same_Some x y e)
 place_push [] x y (suc i) e = absurd (none-some y e)
 place_push (z ∷ l) x y zero e = inl e
 place_push (z ∷ l) x y (suc i) e = ⊎_elim (λ p. inl p) (λ p. inr (ap suc p.0, p.1)) (place_push l x y i e)
-
-pub place_left : {X : Type 0} (l m : List X) (i : ℕ) (y : X) → slice_get l i ≡ Some y → slice_get (l ++ m) i ≡ Some y
-place_left [] m i y e = absurd (none-some y e)
-place_left (z ∷ l) m zero y e = e
-place_left (z ∷ l) m (suc i) y e = place_left l m i y e
-
-pub place_new : {X : Type 0} (l : List X) (x : X) → slice_get (l ++ x ∷ []) (length l) ≡ Some x
-place_new [] x = refl
-place_new (z ∷ l) x = place_new l x
-
--- a place of two lists, one behind the other
-pub place_append : {X : Type 0} (l m : List X) (i : ℕ) (y : X) → slice_get (l ++ m) i ≡ Some y → (slice_get l i ≡ Some y) ⊎ ((p : ℕ) × (i ≡ length l + p) × (slice_get m p ≡ Some y))
-place_append [] m i y e = inr (i, omega arith, e)
-place_append (z ∷ l) m zero y e = inl e
-place_append (z ∷ l) m (suc i) y e = ⊎_elim (λ p. inl p) (λ p. let h = p.1 in inr (p.0, omega arith, p.2)) (place_append l m i y e)
 
 pub place_right : {X : Type 0} (l m : List X) (i p : ℕ) (y : X) → i ≡ length l + p → slice_get m p ≡ Some y → slice_get (l ++ m) i ≡ Some y
 place_right [] m i p y h e = let same : p ≡ i = omega arith in subst (λ n. slice_get m n ≡ Some y) same e
@@ -43,11 +29,6 @@ place_set (z ∷ l) (suc i) zero x y e = inl ((λ h. absurd (omega arith)), e)
 place_set (z ∷ l) (suc i) (suc j) x y e =
     ⊎_elim (λ p. inl ((λ h. p.0 (omega arith)), p.1)) (λ p. inr (ap suc p.0, p.1)) (place_set l i j x y e)
 
-pub place_set_same : {X : Type 0} (l : List X) (i : ℕ) (x : X) → i < length l → slice_get (set l i x) i ≡ Some x
-place_set_same [] i x h = absurd (omega arith)
-place_set_same (z ∷ l) zero x h = refl
-place_set_same (z ∷ l) (suc i) x h = place_set_same l i x (omega arith)
-
 pub place_set_other : {X : Type 0} (l : List X) (i j : ℕ) (x y : X) → j ≢ i → slice_get l j ≡ Some y → slice_get (set l i x) j ≡ Some y
 place_set_other [] i j x y n e = absurd (none-some y e)
 place_set_other (z ∷ l) zero zero x y n e = absurd (n refl)
@@ -58,7 +39,7 @@ place_set_other (z ∷ l) (suc i) (suc j) x y n e = place_set_other l i j x y (�
 -- what stood there already stays
 pub place_set_kept : {X : Type 0} (l : List X) (i j : ℕ) (x : X) → slice_get l j ≡ Some x → slice_get (set l i x) j ≡ Some x
 place_set_kept l i j x e =
-    ⊎_elim (λ h. subst (λ n. slice_get (set l n x) j ≡ Some x) h (place_set_same l j x (slice_get_within l j x e))) (λ n. place_set_other l i j x x n e) (cases_eq j i)
+    ⊎_elim (λ h. subst (λ n. slice_get (set l n x) j ≡ Some x) h (get_set_same l j x (slice_get_within l j x e))) (λ n. place_set_other l i j x x n e) (cases_eq j i)
 
 -- a place of a list without its first n elements
 pub place_drop : {X : Type 0} (n : ℕ) (l : List X) (i : ℕ) (y : X) → slice_get (drop n l) i ≡ Some y → slice_get l (n + i) ≡ Some y
@@ -89,16 +70,16 @@ once_reverse l o i j v h k =
 pub once_turn : (l m : List ℕ) → NoRepeats (l ++ m) → NoRepeats (m ++ l)
 once_turn l m o i j v h k =
     ⊎_elim
-    (λ a. ⊎_elim (λ b. let e = o (length l + i) (length l + j) v (behind i a) (behind j b) in omega arith) (λ b. absurd (apart i b.0 a b.2)) (place_append m l j v k))
-    (λ a. ⊎_elim (λ b. absurd (apart j a.0 b a.2)) (λ b. let e = o a.0 b.0 v (place_left l m a.0 v a.2) (place_left l m b.0 v b.2) in omega (arith, a.1, b.1, e)) (place_append m l j v k))
-    (place_append m l i v h)
+    (λ a. ⊎_elim (λ b. let e = o (length l + i) (length l + j) v (behind i a) (behind j b) in omega arith) (λ b. absurd (apart i b.0 a b.2)) (get_append_cases m l j v k))
+    (λ a. ⊎_elim (λ b. absurd (apart j a.0 b a.2)) (λ b. let e = o a.0 b.0 v (get_append_left l m a.0 v a.2) (get_append_left l m b.0 v b.2) in omega (arith, a.1, b.1, e)) (get_append_cases m l j v k))
+    (get_append_cases m l i v h)
   where
     behind : (i : ℕ) → slice_get m i ≡ Some v → slice_get (l ++ m) (length l + i) ≡ Some v
     behind i a = place_right l m (length l + i) i v refl a
 
     apart : (i p : ℕ) → slice_get m i ≡ Some v → slice_get l p ≡ Some v → ⊥
     apart i p a b =
-        let e = o (length l + i) p v (behind i a) (place_left l m p v b) in
+        let e = o (length l + i) p v (behind i a) (get_append_left l m p v b) in
         let w = slice_get_within l p v b in
         omega arith
 
@@ -110,4 +91,4 @@ once_push l x o n i j v h k =
     (place_push l x v i h)
 
 pub once_front : (l : List ℕ) (x : ℕ) → NoRepeats (l ++ x ∷ []) → NoRepeats l
-once_front l x o i j v h k = o i j v (place_left l (x ∷ []) i v h) (place_left l (x ∷ []) j v k)
+once_front l x o i j v h k = o i j v (get_append_left l (x ∷ []) i v h) (get_append_left l (x ∷ []) j v k)

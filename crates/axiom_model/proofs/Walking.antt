@@ -6,12 +6,13 @@ use Rattle.std.proofs.lemmas.Bool.{cases_order, cases_lt}
 use Rattle.std.proofs.lemmas.List.{length_push, length-replicate, get_or-replicate}
 use Rattle.std.proofs.lemmas.List.Sums.{sum_by-set}
 use Rattle.std.proofs.lemmas.Option.{none-some, same_Some, slice_get_within, slice_get-get_or, get_or_from_slice_get}
+use Rattle.dg_base.proofs.Lists.{get_append_left, get_push_last, get_set_same}
 use Rattle.axiom_model.specs.declared.walk.Mark.{Mark}
 use Rattle.axiom_model.specs.declared.walk.Mark.TheVariants.{New, Open, Closed}
 use Rattle.axiom_model.specs.declared.walk.Walk.{Walk}
 use Rattle.axiom_model.specs.Sorting.{EndsBelow, HasEdge, NoRepeats, IsOrderOf, GoesForward}
 use Rattle.axiom_model.specs.Walking.{LeadsInto, IsLast, AreLinks, IsTop, IsWalk, turns, Onward}
-use Rattle.axiom_model.proofs.Places.{place_push, place_left, place_new, place_set, place_set_same, place_set_other, place_set_kept, once_push, once_front}
+use Rattle.axiom_model.proofs.Places.{place_push, place_set, place_set_other, place_set_kept, once_push, once_front}
 
 -- a node has one mark
 one_mark : (marks : List Mark) (v w : ℕ) (a b : Mark) → slice_get marks v ≡ Some a → slice_get marks w ≡ Some b → (a ≡ b → ⊥) → v ≢ w
@@ -38,8 +39,8 @@ open_keeps edges w u s n t = record {
   links = s.links;
   left = s.left;
   passed = λ k a v p e h le. let c = s.passed k a v p e h le in place_set_other w.marks u a Open Closed (λ q. one_mark w.marks u a New Closed n c new_closed (sym q)) c;
-  path_open = λ i v e. ⊎_elim (λ h. place_set_kept w.marks u v Open (s.path_open i v h)) (λ h. subst (λ x. slice_get (set w.marks u Open) x ≡ Some Open) h.1 (place_set_same w.marks u Open (slice_get_within w.marks u New n))) (place_push w.path u v i e);
-  open_path = λ v e. ⊎_elim (λ h. let r = s.open_path v h.1 in (r.0, place_left w.path (u ∷ []) r.0 v r.1)) (λ h. (length w.path, subst (λ x. slice_get (w.path ++ u ∷ []) (length w.path) ≡ Some x) (sym h.0) (place_new w.path u))) (place_set w.marks u v Open Open e);
+  path_open = λ i v e. ⊎_elim (λ h. place_set_kept w.marks u v Open (s.path_open i v h)) (λ h. subst (λ x. slice_get (set w.marks u Open) x ≡ Some Open) h.1 (get_set_same w.marks u Open (slice_get_within w.marks u New n))) (place_push w.path u v i e);
+  open_path = λ v e. ⊎_elim (λ h. let r = s.open_path v h.1 in (r.0, get_append_left w.path (u ∷ []) r.0 v r.1)) (λ h. (length w.path, subst (λ x. slice_get (w.path ++ u ∷ []) (length w.path) ≡ Some x) (sym h.0) (get_push_last w.path u))) (place_set w.marks u v Open Open e);
   order_closed = λ i v e. let c = s.order_closed i v e in place_set_other w.marks u v Open Closed (λ q. one_mark w.marks u v New Closed n c new_closed (sym q)) c;
   closed_order = λ v e. ⊎_elim (λ h. s.closed_order v h.1) (λ h. absurd (open_closed h.1)) (place_set w.marks u v Open Closed e);
   path_once = once_push w.path u s.path_once (λ i e. one_mark w.marks u u New Open n (s.path_open i u e) new_open refl);
@@ -64,19 +65,19 @@ close_keeps edges w front v s is l = record {
   passed = λ k a b p e h le. place_set_kept w.marks v a Closed (s.passed k a b p e h le);
   path_open = λ i a e. place_set_other w.marks v a Closed Open (other i a e) (s.path_open i a (old i a e));
   open_path = λ a e. ⊎_elim (λ h. still a h.0 (s.open_path a h.1)) (λ h. absurd (open_closed (sym h.1))) (place_set w.marks v a Closed Open e);
-  order_closed = λ i a e. ⊎_elim (λ h. place_set_kept w.marks v a Closed (s.order_closed i a h)) (λ h. subst (λ x. slice_get (set w.marks v Closed) x ≡ Some Closed) h.1 (place_set_same w.marks v Closed (slice_get_within w.marks v Open v_open))) (place_push w.order v a i e);
-  closed_order = λ a e. ⊎_elim (λ h. let r = s.closed_order a h.1 in (r.0, place_left w.order (v ∷ []) r.0 a r.1)) (λ h. (length w.order, subst (λ x. slice_get (w.order ++ v ∷ []) (length w.order) ≡ Some x) (sym h.0) (place_new w.order v))) (place_set w.marks v a Closed Closed e);
+  order_closed = λ i a e. ⊎_elim (λ h. place_set_kept w.marks v a Closed (s.order_closed i a h)) (λ h. subst (λ x. slice_get (set w.marks v Closed) x ≡ Some Closed) h.1 (get_set_same w.marks v Closed (slice_get_within w.marks v Open v_open))) (place_push w.order v a i e);
+  closed_order = λ a e. ⊎_elim (λ h. let r = s.closed_order a h.1 in (r.0, get_append_left w.order (v ∷ []) r.0 a r.1)) (λ h. (length w.order, subst (λ x. slice_get (w.order ++ v ∷ []) (length w.order) ≡ Some x) (sym h.0) (get_push_last w.order v))) (place_set w.marks v a Closed Closed e);
   path_once = once_front front v (subst (λ x. NoRepeats x) is s.path_once);
   order_once = once_push w.order v s.order_once (λ i e. one_mark w.marks v v Open Closed v_open (s.order_closed i v e) open_closed refl);
   path = λ i a b e f. s.path i a b (old i a e) (old (suc i) b f);
-  forward = λ k a b j e h. ⊎_elim (λ q. let r = s.forward k a b j e q in (r.0, r.1, place_left w.order (v ∷ []) r.0 a r.2)) (λ q. last k a b j e q.0 q.1) (place_push w.order v b j h);
+  forward = λ k a b j e h. ⊎_elim (λ q. let r = s.forward k a b j e q in (r.0, r.1, get_append_left w.order (v ∷ []) r.0 a r.2)) (λ q. last k a b j e q.0 q.1) (place_push w.order v b j h);
 }
   where
     old : (i a : ℕ) → slice_get front i ≡ Some a → slice_get w.path i ≡ Some a
-    old i a e = subst (λ x. slice_get x i ≡ Some a) (sym is) (place_left front (v ∷ []) i a e)
+    old i a e = subst (λ x. slice_get x i ≡ Some a) (sym is) (get_append_left front (v ∷ []) i a e)
 
     there : slice_get w.path (length front) ≡ Some v
-    there = subst (λ x. slice_get x (length front) ≡ Some v) (sym is) (place_new front v)
+    there = subst (λ x. slice_get x (length front) ≡ Some v) (sym is) (get_push_last front v)
 
     v_open : slice_get w.marks v ≡ Some Open
     v_open = s.path_open (length front) v there
@@ -96,7 +97,7 @@ close_keeps edges w front v s is l = record {
         let c = s.passed k a b 0 e (subst (λ x. slice_get w.left x ≡ Some 0) same l) (omega arith) in
         let r = s.closed_order a c in
         let h = slice_get_within w.order r.0 a r.1 in
-        (r.0, omega arith, place_left w.order (v ∷ []) r.0 a r.1)
+        (r.0, omega arith, get_append_left w.order (v ∷ []) r.0 a r.1)
 
 -- the walk with one more edge into a node passed
 abbrev pub passed_by : Walk → ℕ → ℕ → Walk
@@ -185,7 +186,7 @@ one_top path v x t r =
 -- what stands before the last node of a path
 pub top_front : (path front : List ℕ) (v x : ℕ) → IsTop path v → path ≡ front ++ x ∷ [] → path ≡ front ++ v ∷ []
 top_front path front v x t e =
-    let r : IsTop path x = (length front, ap length e ∙ length_push front x ∙ add-one (length front), subst (λ l. slice_get l (length front) ≡ Some x) (sym e) (place_new front x)) in
+    let r : IsTop path x = (length front, ap length e ∙ length_push front x ∙ add-one (length front), subst (λ l. slice_get l (length front) ≡ Some x) (sym e) (get_push_last front x)) in
     let same : x ≡ v = one_top path x v r t in
     subst (λ y. path ≡ front ++ y ∷ []) same e
 

@@ -4,8 +4,9 @@ use Rattle.std.proofs.lemmas.List.{length-map}
 use Rattle.std.specs.Prelude.{slice_get, All, option_map}
 use Rattle.std.specs.List.{Contains, filter_map, cons_option}
 use Rattle.std.proofs.lemmas.List.Elements.{Contains-append_left, Contains-append_right, Contains-append_cases, Contains-get_or, All-contains}
-use Rattle.std.proofs.lemmas.Option.{slice_get_within, slice_get-map, same_Some, none-some, get_or_from_slice_get}
+use Rattle.std.proofs.lemmas.Option.{slice_get_within, slice_get-map, same_Some, none-some}
 use Rattle.std.specs.Str.{bytes_eq}
+use Rattle.dg_base.proofs.Lists.{contains_head, contains_nothing, contains_place}
 use Rattle.axiom_model.specs.Cycles.{Chain, Cycle}
 use Rattle.axiom_model.specs.Sorting.{EndsBelow, HasEdge, IsOrderOf, GoesForward, IsSimpleCycle, IsAnswer}
 use Rattle.axiom_model.specs.declared.sorting.Acyclic.{Acyclic}
@@ -35,25 +36,19 @@ in_cons : {X : Type 0} (x : X) (xs : List X) (y : X) → Contains (x ∷ xs) y �
 in_cons x xs y (zero, h, e) = inl e
 in_cons x xs y (suc i, h, e) = inr (i, omega arith, e)
 
-head_in : {X : Type 0} (x : X) (xs : List X) → Contains (x ∷ xs) x
-head_in x xs = (zero, omega arith, refl)
-
-not_in_nil : {X : Type 0} (x : X) → Contains [] x → ⊥
-not_in_nil x c = omega (arith, c.1)
-
 -- a number among those of names is that of one of them, and the other way round
 named_by : (items : List Item) (n : Name) (ns : List Name) (j : ℕ) (o : Option ℕ) → number_of items n ≡ o
     → (Contains (filter_map (number_of items) ns) j → (m : Name) × Contains ns m × (number_of items m ≡ Some j))
     → Contains (cons_option o (filter_map (number_of items) ns)) j → (m : Name) × Contains (n ∷ ns) m × (number_of items m ≡ Some j)
 named_by items n ns j None e h c = let r = h c in (r.0, Contains-append_right (n ∷ []) ns r.0 r.1, r.2)
 named_by items n ns j (Some i) e h c = elim (in_cons i (filter_map (number_of items) ns) j c) [
-  | inl q ↦ (n, head_in n ns, e ∙ ap Some q)
+  | inl q ↦ (n, contains_head n ns, e ∙ ap Some q)
   | inr d ↦ let r = h d in (r.0, Contains-append_right (n ∷ []) ns r.0 r.1, r.2)
 ]
 
 pub named : (items : List Item) (ns : List Name) (j : ℕ) → Contains (numbers_of items ns) j → (n : Name) × Contains ns n × (number_of items n ≡ Some j)
 unfolding numbers_of
-named items [] j c = absurd (not_in_nil j c)
+named items [] j c = absurd (contains_nothing j c)
 named items (n ∷ ns) j c = named_by items n ns j (number_of items n) refl (named items ns j) c
 
 naming_by : (items : List Item) (ns : List Name) (j : ℕ) (o : Option ℕ) → Contains (filter_map (number_of items) ns) j → Contains (cons_option o (filter_map (number_of items) ns)) j
@@ -62,9 +57,9 @@ naming_by items ns j (Some i) c = Contains-append_right (i ∷ []) _ j c
 
 pub naming : (items : List Item) (ns : List Name) (n : Name) (j : ℕ) → Contains ns n → number_of items n ≡ Some j → Contains (numbers_of items ns) j
 unfolding numbers_of
-naming items [] n j c e = absurd (not_in_nil n c)
+naming items [] n j c e = absurd (contains_nothing n c)
 naming items (m ∷ ns) n j c e = elim (in_cons m ns n c) [
-  | inl q ↦ subst (λ o. Contains (cons_option o (filter_map (number_of items) ns)) j) (sym (ap (number_of items) q ∙ e)) (head_in j _)
+  | inl q ↦ subst (λ o. Contains (cons_option o (filter_map (number_of items) ns)) j) (sym (ap (number_of items) q ∙ e)) (contains_head j _)
   | inr d ↦ naming_by items ns j (number_of items m) (naming items ns n j d e)
 ]
 
@@ -73,11 +68,11 @@ row_of : (items : List Item) (i : ℕ) → row_at (callees_of items) i ≡ row_o
 row_of items i = ap row_or_none (slice_get-map (callees_in items) items i)
 
 calls_by : (items : List Item) (i j : ℕ) (o : Option Item) → slice_get items i ≡ o → Contains (row_or_none (option_map (callees_in items) o)) j → Calls items i j
-calls_by items i j None e c = absurd (not_in_nil j c)
+calls_by items i j None e c = absurd (contains_nothing j c)
 calls_by items i j (Some (item.Function f)) e c =
     let r = named items (called_by f) j c in record { caller = f; stands = e; name = r.0; called = r.1; callee = r.2 }
-calls_by items i j (Some (item.Prototype p w n)) e c = absurd (not_in_nil j c)
-calls_by items i j (Some (item.Shared d)) e c = absurd (not_in_nil j c)
+calls_by items i j (Some (item.Prototype p w n)) e c = absurd (contains_nothing j c)
+calls_by items i j (Some (item.Shared d)) e c = absurd (contains_nothing j c)
 
 pub calls : (items : List Item) (i j : ℕ) → Contains (row_at (callees_of items) i) j → Calls items i j
 calls items i j c = calls_by items i j (slice_get items i) refl (subst (λ (l : List ℕ). Contains l j) (row_of items i) c)
@@ -107,7 +102,7 @@ stands items i j (at_once c) = (c.caller, c.stands)
 stands items i j (over c p) = (c.caller, c.stands)
 
 row_within_by : (rows : List (List ℕ)) (i j : ℕ) (o : Option (List ℕ)) → slice_get rows i ≡ o → Contains (row_or_none o) j → i < length rows
-row_within_by rows i j None e c = absurd (not_in_nil j c)
+row_within_by rows i j None e c = absurd (contains_nothing j c)
 row_within_by rows i j (Some r) e c = slice_get_within rows i r e
 
 row_within : (rows : List (List ℕ)) (i j : ℕ) → Contains (row_at rows i) j → i < length rows
@@ -120,21 +115,21 @@ path_within rows i j (next {m = m} c p) = row_within rows i m c
 
 -- rows and edges
 in_map : (i j : ℕ) (r : List ℕ) → Contains r j → Contains {X = ℕ × ℕ} (map (λ (x : ℕ). (i, x)) r) (i, j)
-in_map i j [] c = absurd (not_in_nil j c)
+in_map i j [] c = absurd (contains_nothing j c)
 in_map i j (x ∷ r) c = elim (in_cons x r j c) [
-  | inl q ↦ subst (λ y. Contains {X = ℕ × ℕ} ((i, x) ∷ map (λ (x : ℕ). (i, x)) r) (i, y)) q (head_in {X = ℕ × ℕ} (i, x) _)
+  | inl q ↦ subst (λ y. Contains {X = ℕ × ℕ} ((i, x) ∷ map (λ (x : ℕ). (i, x)) r) (i, y)) q (contains_head {X = ℕ × ℕ} (i, x) _)
   | inr d ↦ Contains-append_right {X = ℕ × ℕ} ((i, x) ∷ []) _ (i, j) (in_map i j r d)
 ]
 
 from_map : (i : ℕ) (r : List ℕ) (e : ℕ × ℕ) → Contains (map (λ (x : ℕ). (i, x)) r) e → (e.0 ≡ i) × Contains r e.1
-from_map i [] e c = absurd (not_in_nil e c)
+from_map i [] e c = absurd (contains_nothing e c)
 from_map i (x ∷ r) e c = elim (in_cons (i, x) (map (λ (x : ℕ). (i, x)) r) e c) [
-  | inl q ↦ (sym (ap (λ (p : ℕ × ℕ). p.0) q), subst (λ y. Contains (x ∷ r) y) (ap (λ (p : ℕ × ℕ). p.1) q) (head_in x r))
+  | inl q ↦ (sym (ap (λ (p : ℕ × ℕ). p.0) q), subst (λ y. Contains (x ∷ r) y) (ap (λ (p : ℕ × ℕ). p.1) q) (contains_head x r))
   | inr d ↦ let k = from_map i r e d in (k.0, Contains-append_right (x ∷ []) r e.1 k.1)
 ]
 
 pub edge_in : (n : ℕ) (rows : List (List ℕ)) (i j : ℕ) → Contains (row_at rows i) j → Contains {X = ℕ × ℕ} (edges_from n rows) (n + i, j)
-edge_in n [] i j c = absurd (not_in_nil j c)
+edge_in n [] i j c = absurd (contains_nothing j c)
 edge_in n (r ∷ rows) zero j c =
     let e : n ≡ n + 0 = omega arith in
     subst (λ x. Contains {X = ℕ × ℕ} (edges_from n (r ∷ rows)) (x, j)) e (Contains-append_left (map (λ (x : ℕ). (n, x)) r) (edges_from (n + 1) rows) (n, j) (in_map n j r c))
@@ -144,18 +139,15 @@ edge_in n (r ∷ rows) (suc i) j c =
     (subst (λ x. Contains {X = ℕ × ℕ} (edges_from (n + 1) rows) (x, j)) e (edge_in (n + 1) rows i j c))
 
 pub edge_from : (n : ℕ) (rows : List (List ℕ)) (e : ℕ × ℕ) → Contains (edges_from n rows) e → (i : ℕ) × (e.0 ≡ n + i) × Contains (row_at rows i) e.1
-edge_from n [] e c = absurd (not_in_nil e c)
+edge_from n [] e c = absurd (contains_nothing e c)
 edge_from n (r ∷ rows) e c = elim (Contains-append_cases (map (λ (x : ℕ). (n, x)) r) (edges_from (n + 1) rows) e c) [
   | inl d ↦ let k = from_map n r e d in (zero, omega (arith, k.0), k.1)
   | inr d ↦ let k = edge_from (n + 1) rows e d in (suc k.0, omega (arith, k.1), k.2)
 ]
 
-in_list : {X : Type 0} (xs : List X) (k : ℕ) (x : X) → slice_get xs k ≡ Some x → Contains xs x
-in_list xs k x e = (k, slice_get_within xs k x e, get_or_from_slice_get xs k x x e)
-
 row_edge : (rows : List (List ℕ)) (a b : ℕ) → HasEdge (edges_from 0 rows) a b → Contains (row_at rows a) b
 row_edge rows a b h =
-    let k = edge_from 0 rows (a, b) (in_list (edges_from 0 rows) h.0 (a, b) h.1) in
+    let k = edge_from 0 rows (a, b) (contains_place (edges_from 0 rows) h.0 (a, b) h.1) in
     let q : k.0 ≡ a = omega (arith, k.1) in
     subst (λ x. Contains (row_at rows x) b) q k.2
 

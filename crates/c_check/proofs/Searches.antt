@@ -3,6 +3,7 @@ use Rattle.std.proofs.Common.{◌≡◌, ◌∙◌, ◌≢◌, ◌<◌, ◌⊎�
 use Rattle.std.specs.Prelude.{IsTrue, ◌↔◌}
 use Rattle.std.specs.List.{Contains}
 use Rattle.std.proofs.lemmas.List.Elements.{Contains-append_left, Contains-append_right, Contains-push, Contains-push_cases, Contains-append_cases}
+use Rattle.dg_base.proofs.Lists.{contains_nothing}
 use Rattle.c_check.specs.declared.reachability.Search.{Search}
 use Rattle.c_check.specs.Graph.{row_at, Path, one, next, IsClosed}
 use Rattle.c_check.specs.Searching.{is_marked, mark_one, mark_all, unmarked}
@@ -23,9 +24,6 @@ pub record Grows (s t : Search) (more : List ℕ) : Type 0 where
   pub marked : (u : ℕ) → Contains t.pending u → Contains s.pending u ⊎ Marked t u
   pub size : length t.marks ≡ length s.marks
   pub measure : unmarked t.marks + length t.pending ≡ unmarked s.marks + length s.pending
-
-not_in_nil : {X : Type 0} (x : X) → Contains [] x → ⊥
-not_in_nil x c = omega (arith, c.1)
 
 in_one : (u v : ℕ) → Contains (v ∷ []) u → v ≡ u
 in_one u v (zero, h, e) = e
@@ -74,7 +72,7 @@ grows_one s v h false e = grows_new s v h e
 grows_none : (s : Search) → Grows s s []
 grows_none s = record {
   sound = λ u h. inl h;
-  all = λ u c. absurd (not_in_nil u c);
+  all = λ u c. absurd (contains_nothing u c);
   kept = λ u h. h;
   waits = λ u h. inl h;
   waited = λ u c. c;
@@ -129,7 +127,7 @@ search_begins rows root cl =
       size = g.size ∙ length_replicate (length rows);
       sound = λ u m. elim (g.sound u m) [ inl o ↦ absurd (n u o) | inr c ↦ one c ];
       begun = λ u c. g.all u c;
-      waiting = λ u c. elim (g.marked u c) [ inl d ↦ absurd (not_in_nil u d) | inr m ↦ m ];
+      waiting = λ u c. elim (g.marked u c) [ inl d ↦ absurd (contains_nothing u d) | inr m ↦ m ];
       closed = λ u m. elim (g.waits u m) [ inl o ↦ absurd (n u o) | inr c ↦ inl c ];
     }
 
@@ -173,7 +171,7 @@ reaches : (rows : List (List ℕ)) (root : ℕ) (s : Search) → s.pending ≡ [
     → (a u : ℕ) → ((w : ℕ) → Contains (row_at rows a) w → Marked s w) → Path rows a u → Marked s u
 reaches rows root s e h a u f (one c) = f u c
 reaches rows root s e h a u f (next {m = m} c p) =
-    reaches rows root s e h m u (elim (h.closed m (f m c)) [ inl d ↦ absurd (not_in_nil m (subst (λ (l : List ℕ). Contains l m) e d)) | inr k ↦ k ]) p
+    reaches rows root s e h m u (elim (h.closed m (f m c)) [ inl d ↦ absurd (contains_nothing m (subst (λ (l : List ℕ). Contains l m) e d)) | inr k ↦ k ]) p
 
 pub search_ends : (rows : List (List ℕ)) (root : ℕ) (s : Search) → s.pending ≡ [] → Searches rows root s → Path rows root root → Marked s root
 search_ends rows root s e h p = reaches rows root s e h root root h.begun p

@@ -8,8 +8,8 @@ use Rattle.std.proofs.lemmas.Bool.Decides.{nat_tests}
 use Rattle.std.proofs.lemmas.Map.Steps.{length-le_from_distinct_below}
 use Rattle.std.proofs.Common.{get_or, replicate}
 use Rattle.std.proofs.lemmas.List.{length-map}
+use Rattle.dg_base.proofs.Lists.{get_set_other, get_set_same}
 use Rattle.axiom_model.specs.Sorting.{NoRepeats, IsOrderOf}
-use Rattle.axiom_model.proofs.Places.{place_set_same}
 use Rattle.c_tree.specs.declared.program.Item.{Item}
 use Rattle.c_tree.specs.declared.program.Item.TheVariants as item
 use Rattle.c_rules.specs.Names.{Name}
@@ -76,13 +76,6 @@ computed m k items order table from v o h e l =
     let r : from ≡ g.0 = o.ordered.whole.once from g.0 v e g.3 in
     h.right g.1 j m g.4 (omega (arith, g.2)) l))
 
-other_place : {X : Type 0} (l : List X) (i j : ℕ) (x : X) → j ≢ i → slice_get (set l i x) j ≡ slice_get l j
-other_place [] i j x n = refl
-other_place (y ∷ l) zero zero x n = absurd (n refl)
-other_place (y ∷ l) zero (suc j) x n = refl
-other_place (y ∷ l) (suc i) zero x n = refl
-other_place (y ∷ l) (suc i) (suc j) x n = other_place l i j x (λ e. n (ap suc e))
-
 same_or_other : (u v : ℕ) → (u ≡ v) ⊎ (u ≢ v)
 same_or_other u v = grind arith
 
@@ -105,12 +98,12 @@ table_step k items order table from v c o h e q = record {
         let y : v ≡ u = same_Some v u (sym e ∙ (ap (slice_get order) (sym s) ∙ a)) in
         let i : v < length table = let j = in_order items order from v o e in omega (arith, h.size) in
         ap (table_at (set table v c)) (sym y)
-        ∙ (ap counts_or_none (place_set_same table v c i)
+        ∙ (ap counts_or_none (get_set_same table v c i)
         ∙ (q ∙ (enough k items order table from v m o h e l ∙ ap (λ w. capped_counts (counts_within m k items w)) y)))
     | inr n ↦
         let d : u ≢ v = λ z. n (o.ordered.whole.once p from v (a ∙ ap Some z) e) in
         let f : suc from ≤ p = omega arith in
-        ap counts_or_none (other_place table v u c d) ∙ h.right p u m a f (omega arith)
+        ap counts_or_none (get_set_other table v u c d) ∙ h.right p u m a f (omega arith)
   ];
 }
 

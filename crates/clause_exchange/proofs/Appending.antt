@@ -4,7 +4,7 @@ use Rattle.std.specs.Prelude.{slice_index, Contains, nat_lt, if◌then◌else◌
 use Rattle.std.proofs.lemmas.List.{length-map, length-set, length-append, map-set, get_or-set_same, get_or-set_other}
 use Rattle.std.proofs.lemmas.List.Elements.{Contains-append_left, Contains-append_right, Contains-append_cases}
 use Rattle.std.proofs.lemmas.Option.{get_or_from_slice_get, slice_get_within}
-use Rattle.dg_base.proofs.Lists.{get_map, get_there, place_of}
+use Rattle.dg_base.proofs.Lists.{get_map, get_there, place_of, contains_head, contains_tail, contains_nothing, contains_cases, contains_map, contains_from_map}
 use mathlib.Core.Option.{none}
 use mathlib.Core.List.{IsPrefix}
 use Rattle.atomic_table.specs.Table.{Me, step, keeps, Allows}
@@ -13,7 +13,6 @@ use Rattle.cnf_problem.specs.declared.problem.Problem.{Problem}
 use Rattle.cnf_problem.specs.Problems.{Follows}
 use Rattle.cnf_problem.proofs.LemmaLaws.{follows_more}
 use Rattle.cnf_problem.specs.Laws.{IsWithin}
-use Rattle.cnf_problem.proofs.Members.{contains_head, contains_tail, contains_cases, contains_nothing, contains_map, from_map}
 use Rattle.search_core.proofs.Laws.{sound_after_events}
 use Rattle.search_core.specs.declared.Entry.{Entry}
 use Rattle.search_core.specs.Core.{Worker, Event, Append, IsReached, MayHappen, after, worker, idle, known, readable, lits_of, appended}
@@ -69,10 +68,10 @@ pub read_within : (p : Problem) (n share_words : ℕ) (words : List ℕ) (parts 
     → IsWithin (lits_of part.log ++ received_lits (reading part.rows)) (lits_of (part.log ++ readable (map (λ (r : RowView). length r.known) part.rows) (map worker_of parts)))
 read_within p n share_words words parts part at kept x c = elim (Contains-append_cases (lits_of part.log) (received_lits (reading part.rows)) x c) [
   | inl m ↦
-      let e = from_map (λ (y : Entry). y.lemma.lits) part.log x m in
+      let e = contains_from_map (λ (y : Entry). y.lemma.lits) part.log x m in
       subst (λ z. Contains (lits_of (part.log ++ may_read)) z) (sym e.2) (contains_map (λ (y : Entry). y.lemma.lits) (part.log ++ may_read) e.0 (Contains-append_left part.log may_read e.0 e.1))
   | inr m ↦
-      let h = from_map (λ (y : Received). y.lits) (reading part.rows) x m in
+      let h = contains_from_map (λ (y : Received). y.lits) (reading part.rows) x m in
       let e = read_known parts part.rows (let a = (kept.rows part.number part at).wide in let b = kept.numbers in omega arith) (λ j other r there row. kept.received part.number j part other r at there row) h.0 h.1 in
       let same : x ≡ e.0.lemma.lits = h.2 ∙ ap (λ (y : Received). y.lits) (sym e.2) in
       subst (λ z. Contains (lits_of (part.log ++ may_read)) z) (sym same) (contains_map (λ (y : Entry). y.lemma.lits) (part.log ++ may_read) e.0 (Contains-append_right part.log may_read e.0 e.1))

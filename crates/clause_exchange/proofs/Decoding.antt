@@ -3,9 +3,8 @@ use Rattle.std.proofs.Common.{◌≡◌, ℕ, zero, suc, ◌+◌, ◌-◌, ◌*�
 use Rattle.std.specs.Prelude.{Contains}
 use Rattle.std.proofs.lemmas.List.{length-append}
 use Rattle.std.proofs.lemmas.Option.{same_Some}
-use Rattle.dg_base.proofs.Lists.{get_append_front, get_nothing}
+use Rattle.dg_base.proofs.Lists.{get_append_front, get_nothing, contains_head, contains_tail}
 use Rattle.dg_base.specs.declared.Lit.{Lit}
-use Rattle.cnf_problem.proofs.Members.{contains_head, contains_tail}
 use Rattle.clause_exchange.specs.declared.rule.Received.{Received}
 use Rattle.clause_exchange.specs.declared.rule.RowView.{RowView}
 use Rattle.clause_exchange.specs.Spelling.{spelled, spelled_entry, spelled_lits}

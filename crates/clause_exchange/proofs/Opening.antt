@@ -3,13 +3,12 @@ use Rattle.std.proofs.Common.{◌≡◌, ℕ, zero, suc, ◌+◌, ◌*◌, ◌<�
 use Rattle.std.specs.Prelude.{slice_index, Contains}
 use Rattle.std.proofs.lemmas.List.{length-replicate, length-map}
 use Rattle.std.proofs.lemmas.Option.{slice_get_within, same_Some, none-some}
-use Rattle.dg_base.proofs.Lists.{get_nothing, place_of, contains_place}
+use Rattle.dg_base.proofs.Lists.{get_nothing, place_of, contains_place, contains_nothing}
 use mathlib.Core.Option.{some, some-injective, some-ne-none}
 use lib.ListN.{get_elem?}
 use Rattle.atomic_table.specs.Table.{Final, Seen}
 use Rattle.cnf_problem.specs.declared.problem.Lemma.{Lemma}
 use Rattle.cnf_problem.specs.declared.problem.Problem.{Problem}
-use Rattle.cnf_problem.proofs.Members.{contains_nothing}
 use Rattle.search_core.specs.declared.Verdict.TheVariants.{Safe, Unsafe}
 use Rattle.search_core.specs.Core.{Worker, IsReached, worker, idle, start}
 use Rattle.search_core.specs.Core

@@ -6,9 +6,8 @@ use Rattle.std.proofs.lemmas.Bool.Decides.{nat_tests}
 use Rattle.std.proofs.lemmas.List.{length-replicate}
 use Rattle.std.proofs.lemmas.List.Elements.{Contains-append_left, Contains-append_right, Contains-append_cases}
 use Rattle.std.proofs.lemmas.Option.{slice_get_within}
-use Rattle.dg_base.proofs.Lists.{contains_from_filter, place_of}
+use Rattle.dg_base.proofs.Lists.{contains_from_filter, place_of, contains_head, contains_tail}
 use Rattle.cnf_problem.specs.declared.problem.Problem.{Problem}
-use Rattle.cnf_problem.proofs.Members.{contains_head, contains_tail}
 use Rattle.cnf_problem.proofs.ChainLaws.{contains_filter}
 use Rattle.clause_exchange.specs.declared.rule.RowView.{RowView}
 use Rattle.clause_exchange.specs.declared.rule.Part.{Part}

@@ -4,9 +4,8 @@ use Rattle.std.specs.Prelude.{Contains, nat_lt, if◌then◌else◌, slice_index
 use Rattle.std.proofs.lemmas.Bool.{lt-ltb, le-ltb}
 use Rattle.std.proofs.lemmas.List.{length-append, length-set, append_assoc, append-nil, map-append, get_or-set_same}
 use Rattle.std.proofs.lemmas.Option.{get_or_from_slice_get}
-use Rattle.dg_base.proofs.Lists.{get_set_cases, get_there}
+use Rattle.dg_base.proofs.Lists.{get_set_cases, get_there, contains_head, contains_nothing, contains_cases}
 use mathlib.Core.List.{IsPrefix}
-use Rattle.cnf_problem.proofs.Members.{contains_head, contains_cases, contains_nothing}
 use Rattle.search_core.specs.declared.Entry.{Entry}
 use Rattle.search_core.specs.declared.Verdict.{Verdict}
 use Rattle.clause_exchange.specs.declared.rule.Received.{Received}

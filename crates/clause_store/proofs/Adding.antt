@@ -6,10 +6,11 @@ use Rattle.std.proofs.lemmas.List.{length-replicate}
 use Rattle.std.proofs.lemmas.List.Elements.{All-contains}
 use Rattle.std.proofs.lemmas.Option.{get_or_from_slice_get, slice_get_within}
 use Rattle.std.proofs.Math.Seq.{take-suc}
+use Rattle.dg_base.proofs.Lists.{contains_nothing}
 use Rattle.dg_base.specs.declared.Lit.{Lit}
 use Rattle.cnf_problem.specs.Literals.{negated, IsOver}
 use Rattle.cnf_problem.specs.Chains.{IsFalse}
-use Rattle.cnf_problem.proofs.Members.{contains_nothing, contains_take}
+use Rattle.cnf_problem.proofs.Members.{contains_take}
 use Rattle.cnf_problem.proofs.LiteralLaws.{same_lit}
 use Rattle.trail_state.specs.Trails.{Assigned, TrailView, true_lits}
 use Rattle.clause_store.specs.Choosing.{IsChosen}

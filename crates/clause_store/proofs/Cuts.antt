@@ -1,8 +1,8 @@
 -- The trail cut at a level, where more is added.
 use Rattle.std.proofs.Common.{ℕ, zero, suc, inl, inr, List, [], ◌∷◌, ◌++◌, sym, subst}
 use Rattle.std.specs.Prelude.{Contains}
+use Rattle.dg_base.proofs.Lists.{contains_head, contains_tail, contains_nothing, contains_cases}
 use Rattle.dg_base.specs.declared.Lit.{Lit}
-use Rattle.cnf_problem.proofs.Members.{contains_head, contains_tail, contains_cases, contains_nothing}
 use Rattle.trail_state.specs.Trails.{Assigned, Decided, Forced, true_lits, up_to}
 
 -- what a cut has it keeps when more is added

@@ -5,10 +5,11 @@ use Rattle.std.proofs.lemmas.List.{map-append, length-append}
 use Rattle.std.proofs.lemmas.Option.{get_or_from_slice_get}
 use Rattle.std.proofs.lemmas.List.Elements.{Contains-append_right}
 use Rattle.std.proofs.lemmas.Bool.{cases_lt}
+use Rattle.dg_base.proofs.Lists.{contains_head}
 use Rattle.dg_base.specs.declared.Lit.{Lit}
 use Rattle.cnf_problem.specs.Literals.{negated}
 use Rattle.cnf_problem.specs.Chains.{IsFalse, AllFalse}
-use Rattle.cnf_problem.proofs.Members.{contains_head, contains_take}
+use Rattle.cnf_problem.proofs.Members.{contains_take}
 use Rattle.cnf_problem.proofs.LiteralLaws.{parity}
 use Rattle.trail_state.specs.Trails.{Assigned, Forced, TrailView, true_lits}
 use Rattle.trail_state.specs.Forcing.{AddsForced, none, one}

@@ -4,7 +4,7 @@ use Rattle.std.specs.Prelude.{Contains, slice_index, replicate}
 use Rattle.std.proofs.lemmas.Bool.{cases_eq, cases_lt}
 use Rattle.std.proofs.lemmas.List.{length-set, length-replicate, get_or-replicate}
 use Rattle.std.proofs.lemmas.List.Folds.{sum_by-replicate}
-use Rattle.cnf_problem.proofs.Members.{contains_head, contains_tail, contains_cases, contains_nothing}
+use Rattle.dg_base.proofs.Lists.{contains_head, contains_tail, contains_nothing, contains_cases}
 use Rattle.clause_store.specs.Linked.{IsChain, IsLaid, IsLinked, LinksView, end_of_list, list_of}
 use Rattle.clause_store.proofs.Chains.{relinked}
 

@@ -3,10 +3,11 @@ use Rattle.std.proofs.Common.{◌≡◌, ◌≢◌, ℕ, zero, suc, ◌<◌, ◌
 use Rattle.std.specs.Prelude.{Contains, slice_get, Some, None, if◌then◌else◌, ◌==◌}
 use Rattle.std.proofs.lemmas.Bool.{cases_eq, cases_lt}
 use Rattle.std.proofs.lemmas.Bool.Decides.{nat_tests}
+use Rattle.dg_base.proofs.Lists.{contains_head, contains_tail, contains_nothing, contains_cases}
 use Rattle.dg_base.specs.declared.Lit.{Lit}
 use Rattle.cnf_problem.specs.Literals.{var, negated}
 use Rattle.cnf_problem.specs.Chains.{IsFalse}
-use Rattle.cnf_problem.proofs.Members.{contains_head, contains_tail, contains_cases, contains_nothing, contains_take}
+use Rattle.cnf_problem.proofs.Members.{contains_take}
 use Rattle.cnf_problem.proofs.LiteralLaws.{var-negated}
 use Rattle.trail_state.specs.Trails.{Assigned, Decided, Forced, TrailView, IsWell, true_lits, level, level_of, up_to}
 use Rattle.clause_store.specs.Choosing.{HasRank, IsBest, IsChosen}

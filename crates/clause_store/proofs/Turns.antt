@@ -4,11 +4,10 @@ use Rattle.std.specs.Prelude.{Contains, slice_get, Some, None}
 use Rattle.std.proofs.lemmas.List.{map-append, length-map}
 use Rattle.std.proofs.lemmas.Bool.{cases_lt}
 use Rattle.std.proofs.lemmas.Option.{slice_get_within}
-use Rattle.dg_base.proofs.Lists.{get_append_front}
+use Rattle.dg_base.proofs.Lists.{get_append_front, contains_head, contains_tail, contains_nothing, contains_cases}
 use Rattle.dg_base.specs.declared.Lit.{Lit}
 use Rattle.cnf_problem.specs.Literals.{negated, var}
 use Rattle.cnf_problem.specs.Chains.{IsFixpoint}
-use Rattle.cnf_problem.proofs.Members.{contains_head, contains_tail, contains_cases, contains_nothing}
 use Rattle.cnf_problem.proofs.LiteralLaws.{negated-negated, var-negated}
 use Rattle.trail_state.specs.Trails.{Assigned, Forced, TrailView, IsWell, lit_of, true_lits, level, up_to}
 use Rattle.trail_state.specs.Forcing.{AddsForced, none, one}

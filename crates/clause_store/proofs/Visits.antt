@@ -7,7 +7,7 @@ use Rattle.std.proofs.lemmas.Bool.{cases_eq}
 use Rattle.dg_base.specs.declared.Lit.{Lit}
 use Rattle.cnf_problem.specs.Literals.{negated}
 use Rattle.cnf_problem.specs.Chains.{IsFalse, AllFalse, IsUnassigned}
-use Rattle.cnf_problem.proofs.Members.{contains_head, contains_tail, contains_cases, contains_nothing, contains_take}
+use Rattle.cnf_problem.proofs.Members.{contains_take}
 use Rattle.cnf_problem.proofs.LiteralLaws.{negated-negated, negated-even, negated-odd, parity, same_lit}
 use Rattle.trail_state.specs.Trails.{Assigned, Forced, true_lits, level, up_to}
 use Rattle.clause_store.specs.Linked.{IsChain, end_of_list, list_of, IsLinked}
@@ -20,6 +20,7 @@ use Rattle.clause_store.proofs.Watches.{cut_within, below_after_assign, here_aft
 use Rattle.clause_store.proofs.Chains.{relinked, chain_once, taken_out}
 use Rattle.std.proofs.lemmas.List.{get_or_default}
 use Rattle.std.proofs.lemmas.Option.{slice_get-get_or}
+use Rattle.dg_base.proofs.Lists.{contains_head, contains_tail, contains_nothing, contains_cases}
 use Rattle.clause_store.proofs.Watches.{IsQuiet}
 use Rattle.clause_store.proofs.Twins.{twin-even, twin-twin, twin-half, twin-within, twin-other}
 

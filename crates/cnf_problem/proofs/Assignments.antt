@@ -4,9 +4,9 @@ use Rattle.std.specs.Prelude.{All, ⊤}
 use Rattle.std.proofs.lemmas.List.{get_or_append_left}
 use Rattle.std.proofs.lemmas.List.Elements.{All-contains, All-from_recursion}
 use Rattle.std.proofs.Math.Seq.{get_or-append_seam}
+use Rattle.dg_base.proofs.Lists.{contains_head, contains_tail, contains_nothing, contains_cases}
 use Rattle.dg_base.specs.declared.Lit.{Lit}
 use Rattle.cnf_problem.specs.Literals.{var, positive, negated, value, IsOver, IsSatisfied, AreSatisfied}
-use Rattle.cnf_problem.proofs.Members.{contains_head, contains_tail, contains_cases, contains_nothing}
 use Rattle.cnf_problem.proofs.LiteralLaws.{parity, value-even, value-odd, var-negated}
 
 -- the variable of the literal that is a variable

@@ -2,11 +2,12 @@
 use Rattle.std.proofs.Common.{◌≡◌, ◌⊎◌, inl, inr, Bool, true, false, not, List, [], ◌∷◌, map, refl, ap, sym, ◌∙◌, subst, arith}
 use Rattle.std.specs.Prelude.{Contains, filter, ◌==◌}
 use Rattle.std.proofs.lemmas.Bool.Decides.{nat_tests}
+use Rattle.dg_base.proofs.Lists.{contains_head, contains_tail, contains_nothing, contains_cases, contains_map, contains_from_map}
 use Rattle.dg_base.specs.declared.Lit.{Lit}
 use Rattle.cnf_problem.specs.Literals.{negated, value, IsSatisfied, AllTrue}
 use Rattle.cnf_problem.specs.Chains.{AllFalse, OthersFalse, UnitChain, done, step, ReachesConflict, Reaches, IsNew, others, IsFixpoint}
 use Rattle.cnf_problem.specs.Laws.{IsWithin}
-use Rattle.cnf_problem.proofs.Members.{contains_head, contains_tail, contains_cases, contains_nothing, contains_or_not, from_map, contains_map}
+use Rattle.cnf_problem.proofs.Members.{contains_or_not}
 use Rattle.cnf_problem.proofs.LiteralLaws.{lit_eq_or_not, same_lit, negated-negated, value-negated}
 
 -- one more element on both sides
@@ -84,7 +85,7 @@ fixpoint_no_conflict cs lits start fixpoint within h =
 -- over a fixpoint, a lemma is new if one of its literals isn't true there and the others are false there
 pub new_from_fixpoint : (cs : List (List Lit)) (lits clause : List Lit) (l : Lit) → IsFixpoint cs lits → Contains clause l → (Contains lits l → ⊥) → AllFalse lits (others l clause) → IsNew cs clause
 new_from_fixpoint cs lits clause l fixpoint member missing others_false =
-    let start : IsWithin (map negated (others l clause)) lits = (λ x h. let r = from_map negated (others l clause) x h in subst (λ z. Contains lits z) (sym r.2) (others_false r.0 r.1)) in
+    let start : IsWithin (map negated (others l clause)) lits = (λ x h. let r = contains_from_map negated (others l clause) x h in subst (λ z. Contains lits z) (sym r.2) (others_false r.0 r.1)) in
     record {
       literal = l;
       listed = member;
@@ -163,7 +164,7 @@ pub resolve : (cs : List (List Lit)) (old new clause : List Lit) (l : Lit) → C
     → ReachesConflict cs (map negated old) → ReachesConflict cs (map negated new)
 resolve cs old new clause l listed member from_clause from_old h =
     let within : IsWithin (map negated old) (l ∷ map negated new) = (λ x c.
-    let r = from_map negated old x c in
+    let r = contains_from_map negated old x c in
     elim (from_old r.0 r.1) [
       | inl e ↦ subst (λ z. Contains (l ∷ map negated new) z) (sym (r.2 ∙ ap negated e ∙ negated-negated l)) (contains_head l (map negated new))
       | inr m ↦ contains_tail l x (map negated new) (subst (λ z. Contains (map negated new) z) (sym r.2) (contains_map negated new r.0 m))

@@ -3,10 +3,10 @@ use Rattle.std.proofs.Common.{◌≡◌, ◌+◌, ◌%◌, ◌≤◌, inl, inr, 
 use Rattle.std.specs.Prelude.{Contains, All}
 use Rattle.std.proofs.lemmas.List.{append-nil, append_assoc, length_push}
 use Rattle.std.proofs.lemmas.List.Elements.{All-contains, Contains-append_left, Contains-append_right, Contains-append_cases}
+use Rattle.dg_base.proofs.Lists.{contains_head}
 use Rattle.dg_base.specs.declared.Lit.{Lit}
 use Rattle.cnf_problem.specs.Literals.{positive, value, IsOver, IsSatisfied, AreSatisfied}
 use Rattle.cnf_problem.specs.Formulas.{Formula, true_lit, HasValue, IsBuilt, Extension, Extends, AddsFree, IsGate}
-use Rattle.cnf_problem.proofs.Members.{contains_head}
 use Rattle.cnf_problem.proofs.LiteralLaws.{value-even, value-odd}
 use Rattle.cnf_problem.proofs.Assignments.{value-append, value-next, satisfied-append, over_next, satisfied_true, each_satisfied}
 

@@ -3,6 +3,7 @@ use Rattle.std.proofs.Common.{◌≡◌, ℕ, ◌⊎◌, inl, inr, Bool, true, f
 use Rattle.std.specs.Prelude.{Contains}
 use Rattle.std.proofs.Common.{append_assoc, append-nil}
 use Rattle.std.proofs.lemmas.List.Elements.{Contains-append_left, Contains-append_right, Contains-append_cases, Contains-push_cases}
+use Rattle.dg_base.proofs.Lists.{contains_head, contains_tail, contains_nothing, contains_cases, contains_from_map}
 use Rattle.dg_base.specs.declared.Lit.{Lit}
 use Rattle.cnf_problem.specs.declared.problem.Edge.{Edge}
 use Rattle.cnf_problem.specs.declared.problem.Problem.{Problem}
@@ -13,7 +14,6 @@ use Rattle.cnf_problem.specs.Literals.{negated, value, IsSatisfied}
 use Rattle.cnf_problem.specs.Edges.{HasEdge, fixed, own, derived, Path, last, then, EdgeIn, IsCyclic}
 use Rattle.cnf_problem.specs.Problems.{IsConsistent, FollowsBy, Follows, FollowInTurn}
 use Rattle.cnf_problem.specs.Laws.{IsWithin}
-use Rattle.cnf_problem.proofs.Members.{contains_head, contains_tail, contains_cases, contains_nothing, from_map}
 use Rattle.cnf_problem.proofs.LiteralLaws.{negated-negated, value-negated}
 use Rattle.cnf_problem.proofs.ChainLaws.{conflict_more, conflict_sound}
 
@@ -66,7 +66,7 @@ follows_sound p cs a lemma ok sat h =
     by_kind ByUnit lits f c =
         conflict_sound (p.clauses ++ cs) (map negated lits) a
         (λ clause h. elim (Contains-append_cases p.clauses cs clause h) [ inl m ↦ ok.clauses clause m | inr m ↦ sat clause m ])
-        (λ x h. let r = from_map negated lits x h in subst (λ z. value a z ≡ true) (sym r.2) (negation_true r.0 (f r.0 r.1)))
+        (λ x h. let r = contains_from_map negated lits x h in subst (λ z. value a z ≡ true) (sym r.2) (negation_true r.0 (f r.0 r.1)))
         c
     by_kind ByCycle lits f c =
         ok.acyclic (cyclic_more p (λ l. Contains lits (negated l)) (λ l. value a l ≡ true)

@@ -1,11 +1,10 @@
 -- The clause of the marked literals is asserting, once one literal of the last level is left.
 use Rattle.std.proofs.Common.{◌≡◌, ℕ, ◌<◌, ◌≤◌, inl, inr, Bool, List, ◌∷◌, map, ap, sym, ◌∙◌, subst, arith}
 use Rattle.std.specs.Prelude.{Contains, slice_get, Some}
-use Rattle.dg_base.proofs.Lists.{place_of, contains_place, contains_from_filter}
+use Rattle.dg_base.proofs.Lists.{place_of, contains_place, contains_from_filter, contains_map}
 use Rattle.dg_base.specs.declared.Lit.{Lit}
 use Rattle.cnf_problem.specs.Literals.{var, negated}
 use Rattle.cnf_problem.specs.Chains.{IsUnassigned}
-use Rattle.cnf_problem.proofs.Members.{contains_map}
 use Rattle.cnf_problem.proofs.ChainLaws.{conflict_more}
 use Rattle.cnf_problem.proofs.LiteralLaws.{var-negated, negated-negated}
 use Rattle.trail_state.specs.Trails.{TrailView, Assigned, true_lits, level, level_of, up_to}

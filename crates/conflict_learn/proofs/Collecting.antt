@@ -5,10 +5,9 @@ use Rattle.std.proofs.lemmas.Bool.{cases_eq, false≢true}
 use Rattle.std.proofs.lemmas.List.{length-map}
 use Rattle.std.proofs.lemmas.List.Elements.{Contains-push_cases, Contains-append_left, Contains-append_right}
 use Rattle.std.proofs.lemmas.Option.{slice_get_within}
-use Rattle.dg_base.proofs.Lists.{place_of, contains_place, get_push_cases}
+use Rattle.dg_base.proofs.Lists.{place_of, contains_place, get_push_cases, contains_head, contains_nothing}
 use Rattle.dg_base.specs.declared.Lit.{Lit}
 use Rattle.cnf_problem.specs.Literals.{var, negated}
-use Rattle.cnf_problem.proofs.Members.{contains_head, contains_nothing}
 use Rattle.cnf_problem.proofs.LiteralLaws.{var-negated, negated-negated}
 use Rattle.trail_state.specs.Trails.{Assigned, lit_of, true_lits, level, level_of}
 use Rattle.conflict_learn.specs.Marking.{is_marked, IsCollected}

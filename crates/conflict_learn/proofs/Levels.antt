@@ -2,10 +2,9 @@
 use Rattle.std.proofs.Common.{◌≡◌, ℕ, zero, suc, ◌<◌, ◌≤◌, inl, inr, List, [], ◌∷◌, refl, ap, sym, subst, arith}
 use Rattle.std.specs.Prelude.{Some, Contains, slice_get}
 use Rattle.std.proofs.lemmas.Bool.{eq-eqb, ne_eqb, cases_eq}
-use Rattle.dg_base.proofs.Lists.{place_of, get_map}
+use Rattle.dg_base.proofs.Lists.{place_of, get_map, contains_head, contains_tail, contains_nothing, contains_cases}
 use Rattle.dg_base.specs.declared.Lit.{Lit}
 use Rattle.cnf_problem.specs.Literals.{var}
-use Rattle.cnf_problem.proofs.Members.{contains_head, contains_tail, contains_cases, contains_nothing}
 use Rattle.trail_state.specs.Trails.{Assigned, Decided, Forced, lit_of, reason, true_lits, level, up_to, level_of, reason_of}
 
 -- no two places have one variable

@@ -3,8 +3,7 @@ use Rattle.std.proofs.Common.{◌≡◌, ℕ, zero, suc, ◌+◌, get_or, ◌<�
 use Rattle.std.specs.Prelude.{Option, Some, None, Contains, slice_get, filter_map}
 use Rattle.std.proofs.lemmas.Bool.{cases_lt}
 use Rattle.std.proofs.lemmas.Option.{get_or_from_slice_get, slice_get_within}
-use Rattle.dg_base.proofs.Lists.{place_of}
-use Rattle.cnf_problem.proofs.Members.{contains_head, contains_tail, contains_cases, contains_nothing}
+use Rattle.dg_base.proofs.Lists.{place_of, contains_head, contains_tail, contains_nothing, contains_cases}
 
 -- an element of the first images has a place there
 pub place_in_front : {X Y : Type 0} (f : X → Y) (xs : List X) (n : ℕ) (y : Y) → Contains (map f (take n xs)) y → (k : ℕ) × (k < n) × (slice_get (map f xs) k ≡ Some y)

@@ -3,12 +3,11 @@ use Rattle.std.proofs.Common.{◌≡◌, ℕ, zero, suc, ◌<◌, ◌⊎◌, inl
 use Rattle.std.specs.Prelude.{Contains, slice_get, Some, option_and_then}
 use Rattle.std.proofs.lemmas.Bool.{cases_eq}
 use Rattle.std.proofs.lemmas.List.Elements.{Contains-append_left, Contains-append_right, Contains-append_cases}
-use Rattle.dg_base.proofs.Lists.{contains_place, get_map, contains_from_filter}
+use Rattle.dg_base.proofs.Lists.{contains_place, get_map, contains_from_filter, contains_head, contains_tail, contains_nothing}
 use Rattle.dg_base.specs.declared.Lit.{Lit}
 use Rattle.cnf_problem.specs.Literals.{var, negated}
 use Rattle.cnf_problem.specs.Chains.{IsFalse, AllFalse, OthersFalse, ReachesConflict, step, done}
 use Rattle.cnf_problem.specs.Laws.{IsWithin}
-use Rattle.cnf_problem.proofs.Members.{contains_head, contains_tail, contains_nothing}
 use Rattle.cnf_problem.proofs.ChainLaws.{conflict_more, contains_filter}
 use Rattle.cnf_problem.proofs.LiteralLaws.{var-negated}
 use Rattle.trail_state.specs.Trails.{Assigned, Decided, Forced, lit_of, reason, true_lits, level_of, up_to}

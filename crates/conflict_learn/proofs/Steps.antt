@@ -4,10 +4,9 @@ use Rattle.std.proofs.Common.{◌≡◌, ℕ, zero, suc, ◌+◌, ◌<◌, ◌^�
 use Rattle.std.specs.Prelude.{Contains}
 use Rattle.std.proofs.lemmas.Bool.{cases_eq, false≢true}
 use Rattle.std.proofs.lemmas.List.{length-set, length-map, length-replicate}
-use Rattle.dg_base.proofs.Lists.{place_of}
+use Rattle.dg_base.proofs.Lists.{place_of, contains_head}
 use Rattle.dg_base.specs.declared.Lit.{Lit}
 use Rattle.cnf_problem.specs.Literals.{var}
-use Rattle.cnf_problem.proofs.Members.{contains_head}
 use Rattle.trail_state.specs.Trails.{TrailView, Assigned, lit_of, true_lits, level, level_of, IsAssigned, IsWell}
 use Rattle.conflict_learn.specs.Marking.{is_marked, is_last, last_count, AreMarks, AddsMarks}
 use Rattle.conflict_learn.proofs.Levels.{Once}

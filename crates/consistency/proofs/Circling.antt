@@ -3,6 +3,7 @@ use Rattle.std.proofs.Common.{◌≡◌, ℕ, zero, suc, ◌≤◌, List, [], �
 use Rattle.std.specs.Prelude.{slice_get, slice_index}
 use Rattle.std.proofs.lemmas.Bool.{cases_order}
 use Rattle.std.proofs.lemmas.Option.{none-some, same_Some, slice_get_within, get_or_from_slice_get}
+use Rattle.dg_base.proofs.Lists.{get_from_map}
 use Rattle.axiom_model.specs.declared.Event.{Event}
 use Rattle.axiom_model.specs.Cycles.{Chain, Cycle, NoCycle}
 use Rattle.axiom_model.specs.Execution.{Execution, action_at}
@@ -14,7 +15,6 @@ use Rattle.consistency.specs.Numbering.{node_event, place_of, event_at, Earlier,
 use Rattle.consistency.specs.Graphs.{Reaches, Joined, Lists}
 use Rattle.consistency.proofs.Reaching.{reach_join}
 use Rattle.consistency.proofs.Finding.{event_at-node, node_at, one_number}
-use Rattle.consistency.proofs.Numbered.{map_at}
 
 -- ---- where the list has no cycle
 
@@ -84,7 +84,7 @@ module _ (x : Execution) (nodes : List Node) (num : IsNumbering x nodes) where
   -- the node of a member of a cycle's events
   member : (R : Event → Event → Type 0) (edges : List (ℕ × ℕ)) → Lists nodes R edges → (l : List ℕ) → Cycle (HasEdge edges) l → (i : ℕ) (e : Event) → slice_get (map (event_at nodes) l) i ≡ Some e → (n : ℕ) × (v : Node) × (slice_get l i ≡ Some n) × (slice_get nodes n ≡ Some v) × (node_event v ≡ e)
   member R edges lists l c i e h =
-      let m = map_at (event_at nodes) l i e h in
+      let m = get_from_map (event_at nodes) l i e h in
       let t = cycle_source (HasEdge edges) l c i m.0 m.1 in
       let v = node_at nodes m.0 (lists.below m.0 t.0 t.1).0 in
       (m.0, v.0, m.1, v.1, sym (event_at-node nodes m.0 v.0 v.1) ∙ m.2)

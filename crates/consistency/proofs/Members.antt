@@ -2,7 +2,8 @@
 use Rattle.std.proofs.Common.{◌≡◌, ℕ, zero, suc, ◌+◌, ◌⊎◌, List, [], ◌∷◌, ◌++◌, Bool, true, false, cond, length, Some, refl, ⊎_elim, inl, inr}
 use Rattle.std.specs.Prelude.{slice_get}
 use Rattle.std.proofs.lemmas.Option.{none-some, same_Some}
-use Rattle.axiom_model.proofs.Places.{place_left, place_right, place_append}
+use Rattle.dg_base.proofs.Lists.{get_append_left, get_append_cases}
+use Rattle.axiom_model.proofs.Places.{place_right}
 use Rattle.consistency.specs.Edges.{one}
 
 -- the element stands in the list
@@ -10,13 +11,13 @@ abbrev pub Has : {X : Type 0} → List X → X → Type 0
 Has l x = (k : ℕ) × (slice_get l k ≡ Some x)
 
 pub has_left : {X : Type 0} (l m : List X) (x : X) → Has l x → Has (l ++ m) x
-has_left l m x h = (h.0, place_left l m h.0 x h.1)
+has_left l m x h = (h.0, get_append_left l m h.0 x h.1)
 
 pub has_right : {X : Type 0} (l m : List X) (x : X) → Has m x → Has (l ++ m) x
 has_right l m x h = (length l + h.0, place_right l m (length l + h.0) h.0 x refl h.1)
 
 pub has_cases : {X : Type 0} (l m : List X) (x : X) → Has (l ++ m) x → Has l x ⊎ Has m x
-has_cases l m x h = ⊎_elim (λ e. inl (h.0, e)) (λ p. inr (p.0, p.2)) (place_append l m h.0 x h.1)
+has_cases l m x h = ⊎_elim (λ e. inl (h.0, e)) (λ p. inr (p.0, p.2)) (get_append_cases l m h.0 x h.1)
 
 pub has_none : {X : Type 0} (x : X) → Has [] x → ⊥
 has_none x h = none-some x h.1

@@ -3,13 +3,14 @@ use Rattle.std.proofs.Common.{◌≡◌, ℕ, zero, suc, ◌+◌, ◌<◌, ◌�
 use Rattle.std.specs.Prelude.{slice_get, unwrap_or, nat_eq}
 use Rattle.std.proofs.lemmas.Bool.{and_parts, and_from, eqb-true, eq-eqb, cases_order}
 use Rattle.std.proofs.lemmas.Option.{none-some, same_Some, slice_get_within, get_or_from_slice_get}
+use Rattle.dg_base.proofs.Lists.{get_from_map, get_map, get_append_left, get_append_cases}
 use Rattle.axiom_model.specs.declared.Action.{Action}
 use Rattle.axiom_model.specs.declared.Event.{Event}
 use Rattle.axiom_model.specs.declared.Event.TheVariants.{At}
 use Rattle.axiom_model.specs.declared.RfPair.{RfPair}
 use Rattle.axiom_model.specs.Execution.{Execution, actions_of, action_at, SameBlock}
 use Rattle.axiom_model.proofs.PairTests.{same_option}
-use Rattle.axiom_model.proofs.Places.{place_left, place_right, place_append}
+use Rattle.axiom_model.proofs.Places.{place_right}
 use Rattle.axiom_model.proofs.Sections.{section_from, section_of, same_section-same_block, one_section-same_section}
 use Rattle.axiom_model.proofs.Threads.{Rising, acts_from, actions_of-thread}
 use Rattle.consistency.specs.declared.ThreadActions.{ThreadActions}
@@ -93,7 +94,7 @@ of_thread n (t ∷ ts) m v e =
     let r = of_thread (n + length t.actions) ts h.0 v h.2 in
     let len = length-thread_nodes t.handle n None 0 t.actions in
     record { place = suc r.place; thread = r.thread; there = r.there; k = r.k; is = omega (arith, h.1, r.is, len); node = r.node })
-    (place_append (thread_nodes t.handle n None 0 t.actions) (nodes_of (n + length t.actions) ts) m v e)
+    (get_append_cases (thread_nodes t.handle n None 0 t.actions) (nodes_of (n + length t.actions) ts) m v e)
 
 -- every action of a thread has a node
 nodes_have : (n : ℕ) (ts : List ThreadActions) (p k : ℕ) (t : ThreadActions) (a : Action) → slice_get ts p ≡ Some t → slice_get t.actions k ≡ Some a → (m : ℕ) × (v : Node) × (slice_get (nodes_of n ts) m ≡ Some v) × (v.handle ≡ t.handle) × (v.index ≡ k)
@@ -103,28 +104,18 @@ nodes_have n (u ∷ ts) zero k t a e f =
     let g : slice_get u.actions k ≡ Some a = subst (λ z. slice_get z.actions k ≡ Some a) (sym same) f in
     let h = thread_has u.handle n None 0 u.actions k a g in
     let i = thread_node u.handle n None 0 u.actions k h.0 h.1 in
-    (k, h.0, place_left (thread_nodes u.handle n None 0 u.actions) (nodes_of (n + length u.actions) ts) k h.0 h.1, i.handle ∙ ap (λ z. z.handle) same, (let x = i.index in omega arith))
+    (k, h.0, get_append_left (thread_nodes u.handle n None 0 u.actions) (nodes_of (n + length u.actions) ts) k h.0 h.1, i.handle ∙ ap (λ z. z.handle) same, (let x = i.index in omega arith))
 nodes_have n (u ∷ ts) (suc p) k t a e f =
     let r = nodes_have (n + length u.actions) ts p k t a e f in
     (length (thread_nodes u.handle n None 0 u.actions) + r.0, r.1, place_right (thread_nodes u.handle n None 0 u.actions) (nodes_of (n + length u.actions) ts) (length (thread_nodes u.handle n None 0 u.actions) + r.0) r.0 r.1 refl r.2, r.3, r.4)
 
 -- ---- threads
 
-pub map_at : {X Y : Type 0} (f : X → Y) (l : List X) (k : ℕ) (y : Y) → slice_get (map f l) k ≡ Some y → (x : X) × (slice_get l k ≡ Some x) × (f x ≡ y)
-map_at f [] k y e = absurd (none-some y e)
-map_at f (x ∷ xs) zero y e = (x, refl, same_Some (f x) y e)
-map_at f (x ∷ xs) (suc k) y e = map_at f xs k y e
-
-at_map : {X Y : Type 0} (f : X → Y) (l : List X) (k : ℕ) (x : X) → slice_get l k ≡ Some x → slice_get (map f l) k ≡ Some (f x)
-at_map f [] k x e = absurd (none-some x e)
-at_map f (y ∷ xs) zero x e = ap (λ z. Some (f z)) (same_Some y x e)
-at_map f (y ∷ xs) (suc k) x e = at_map f xs k x e
-
 handles_rise : (ts : List ThreadActions) → Rising (map thread_seen ts) → (p q : ℕ) (t u : ThreadActions) → p < q → slice_get ts p ≡ Some t → slice_get ts q ≡ Some u → t.handle < u.handle
 handles_rise ts r p q t u l e f =
     let d = thread_seen t in
-    let a = at_map thread_seen ts p t e in
-    let b = at_map thread_seen ts q u f in
+    let a = get_map thread_seen ts p t e in
+    let b = get_map thread_seen ts q u f in
     let h : (get_or (map thread_seen ts) p d).handle < (get_or (map thread_seen ts) q d).handle = r p q d l (slice_get_within (map thread_seen ts) q (thread_seen u) b) in
     let first : (get_or (map thread_seen ts) p d).handle ≡ t.handle = ap (λ z. z.handle) (get_or_from_slice_get (map thread_seen ts) p (thread_seen t) d a) in
     let second : (get_or (map thread_seen ts) q d).handle ≡ u.handle = ap (λ z. z.handle) (get_or_from_slice_get (map thread_seen ts) q (thread_seen u) d b) in
@@ -140,12 +131,12 @@ module _ (ts : List ThreadActions) (rf : List RfPair) (co : List (List Event)) (
   all = nodes_of 0 ts
 
   acts_at : (p : ℕ) (t : ThreadActions) → slice_get ts p ≡ Some t → actions_of seen.threads t.handle ≡ t.actions
-  acts_at p t e = actions_of-thread (map thread_seen ts) rising p (thread_seen t) (at_map thread_seen ts p t e)
+  acts_at p t e = actions_of-thread (map thread_seen ts) rising p (thread_seen t) (get_map thread_seen ts p t e)
 
   complete : (h i : ℕ) (p : Action) → action_at seen (At h i) ≡ Some p → (n : ℕ) × (v : Node) × (slice_get all n ≡ Some v) × (v.handle ≡ h) × (v.index ≡ i)
   complete h i p e =
       let a = acts_from (map thread_seen ts) h i p e in
-      let m = map_at thread_seen ts a.place a.thread a.there in
+      let m = get_from_map thread_seen ts a.place a.thread a.there in
       let acts : slice_get m.0.actions i ≡ Some p = subst (λ t. slice_get t.actions i ≡ Some p) (sym m.2) a.acts in
       let same : m.0.handle ≡ h = ap (λ t. t.handle) m.2 ∙ a.same_handle in
       let r = nodes_have 0 ts a.place i m.0 p m.1 acts in

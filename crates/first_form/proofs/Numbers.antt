@@ -3,6 +3,7 @@ use Rattle.std.proofs.Common.{◌≡◌, ℕ, ◌<◌, ◌^◌, ◌&&◌, nat_lt
 use Rattle.std.specs.Option.{option_and_then}
 use Rattle.std.proofs.lemmas.Bool.{and_parts, ltb-true}
 use Rattle.std.proofs.lemmas.List.Quantifiers.{position-Some}
+use Rattle.dg_base.proofs.Lists.{from_option_map}
 use Rattle.dg_base.specs.declared.Place.{Place}
 use Rattle.c_tree.specs.declared.expr.Expr.{Expr, out-Expr}
 use Rattle.c_tree.specs.declared.expr.Expr.TheOpen.{Expr-F}
@@ -10,7 +11,7 @@ use Rattle.c_tree.specs.declared.stmt.Stmt.{Stmt}
 use Rattle.first_form.specs.declared.form.FormCheck.{FormCheck}
 use Rattle.first_form.specs.declared.form.FormThread.{FormThread}
 use Rattle.first_form.specs.Trees as trees
-use Rattle.first_form.proofs.Parts.{given-some, and_then-some, map-some}
+use Rattle.first_form.proofs.Parts.{given-some, and_then-some}
 
 -- a small number, and there is a cell
 pub record IsValue (cell : Option (List ℕ)) (v : ℕ) : Type 0 where
@@ -48,7 +49,7 @@ write_value cell s v e = let r = and_then-some (trees.assigned cell) (trees.effe
 check_with_value : (cell : Option (List ℕ)) (call : Place × List Expr) (c : FormCheck) → trees.check_with cell call ≡ Some c → IsValue cell c.value
 check_with_value cell (p, []) c e = absurd cc
 check_with_value cell (p, x ∷ []) c e =
-    let r = map-some (λ v. let made : FormCheck = record { place = p; value = v } in made) (trees.compared cell x) c e in
+    let r = from_option_map (λ v. let made : FormCheck = record { place = p; value = v } in made) (trees.compared cell x) c e in
     subst (λ (d : FormCheck). IsValue cell d.value) r.2 (compared_value cell (out-Expr x) r.0 r.1)
 check_with_value cell (p, x ∷ y ∷ zs) c e = absurd cc
 

@@ -1,6 +1,6 @@
 -- What there is where something is read.
 use Rattle.std.proofs.Common.{◌≡◌, Bool, true, false, List, [], ◌∷◌, length, Option, Some, None, All, suc, refl, ap, sym, ◌∙◌, subst}
-use Rattle.std.specs.Option.{option_and_then, option_map}
+use Rattle.std.specs.Option.{option_and_then}
 use Rattle.std.proofs.lemmas.List.Elements.{All-nil, All-cons}
 use Rattle.first_form.specs.Trees.{given, with_first, all_of}
 
@@ -11,10 +11,6 @@ given-some false o x e = absurd cc
 pub and_then-some : {A B : Type 0} (f : A → Option B) (o : Option A) (y : B) → option_and_then f o ≡ Some y → (x : A) × (o ≡ Some x) × (f x ≡ Some y)
 and_then-some f None y e = absurd cc
 and_then-some f (Some x) y e = (x, refl, e)
-
-pub map-some : {A B : Type 0} (f : A → B) (o : Option A) (y : B) → option_map f o ≡ Some y → (x : A) × (o ≡ Some x) × (f x ≡ y)
-map-some f None y e = absurd cc
-map-some f (Some x) y e = (x, refl, cc)
 
 -- a list that is read has a first item and others
 pub first-some : {A : Type 0} (o : Option A) (p : Option (List A)) (ys : List A) → with_first o p ≡ Some ys → (x : A) × (xs : List A) × (o ≡ Some x) × (p ≡ Some xs) × (ys ≡ x ∷ xs)

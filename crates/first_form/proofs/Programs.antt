@@ -4,6 +4,7 @@ use Rattle.std.specs.List.{zip}
 use Rattle.std.specs.Option.{option_map}
 use Rattle.std.proofs.lemmas.Bool.{and_parts, leb-true}
 use Rattle.std.proofs.lemmas.List.Elements.{All-weaker, All-head}
+use Rattle.dg_base.proofs.Lists.{from_option_map}
 use Rattle.c_tree.specs.declared.stmt.Stmt.{Stmt, out-Stmt}
 use Rattle.c_tree.specs.declared.stmt.Stmt.TheOpen.{Stmt-F}
 use Rattle.c_tree.specs.declared.program.Item.{Item}
@@ -15,7 +16,7 @@ use Rattle.first_form.specs.declared.form.FormThread.{FormThread}
 use Rattle.first_form.specs.Form.{IsProgram, accesses}
 use Rattle.first_form.specs.Trees as trees
 use Rattle.first_form.specs.Whole as whole
-use Rattle.first_form.proofs.Parts.{given-some, and_then-some, map-some, all_of-All, all_of-length}
+use Rattle.first_form.proofs.Parts.{given-some, and_then-some, all_of-All, all_of-length}
 use Rattle.first_form.proofs.Numbers.{IsValue, write_value, check_value, created_within}
 
 -- a function writes values alone
@@ -27,7 +28,7 @@ thread_values cell (item.Function f) t e =
     let fits = trees.is_pointer f.word && trees.is_own f.name && whole.is_parameter cell f.params in
     let made = λ (ws : List ℕ). let thread : FormThread = record { name = f.name; writes = ws } in thread in
     let r = given-some fits (option_map made (whole.writes_of cell f.body)) t e in
-    let m = map-some made (whole.writes_of cell f.body) t r.1 in
+    let m = from_option_map made (whole.writes_of cell f.body) t r.1 in
     let w = given-some (trees.ends f.body) (trees.all_of (trees.write_of cell) (trees.but_last f.body)) m.0 m.1 in
     subst (Writes cell) m.2 (all_of-All (trees.write_of cell) (IsValue cell) (write_value cell) (trees.but_last f.body) m.0 w.1)
 thread_values cell (item.Prototype p w n) t e = absurd cc

@@ -3,7 +3,7 @@ use Rattle.std.proofs.Common.{◌≡◌, ℕ, zero, suc, ◌+◌, ◌*◌, List,
 use Rattle.std.specs.Prelude.{slice_get, ◌==◌}
 use Rattle.std.proofs.lemmas.List.{length-map}
 use Rattle.std.proofs.lemmas.Option.{slice_get-map}
-use Rattle.dg_base.proofs.Lists.{get_append_cases, get_append_left, get_append_right}
+use Rattle.dg_base.proofs.Lists.{get_append_cases, get_append_left, get_append_right, from_option_map}
 use Rattle.axiom_model.specs.declared.Action.{Action}
 use Rattle.axiom_model.specs.declared.Action.TheVariants.{Read, Write, Create, Join, Start, End}
 use Rattle.axiom_model.specs.Execution.{Thread}
@@ -14,7 +14,7 @@ use Rattle.first_form.specs.declared.form.FormThread.{FormThread}
 use Rattle.first_form.specs.declared.form.FormCheck.{FormCheck}
 use Rattle.form_verdict.proofs.Runs.{ended, acting, writing, thread_run, checks_run, joins_run, creating, first_handle, main_run, run_of, form_runs}
 use Rattle.form_verdict.proofs.Lists.{only_place}
-use Rattle.form_verdict.proofs.RunSteps.{option_map_some, if_cases, CheckStep, check_step, JoinStep, join_step}
+use Rattle.form_verdict.proofs.RunSteps.{if_cases, CheckStep, check_step, JoinStep, join_step}
 
 -- the action neither writes nor creates
 abbrev pub JoinsOrReads : Action → Type 0
@@ -86,12 +86,12 @@ did f t r = go (slice_get f.threads t.function) refl r.runs_to
         main : slice_get f.threads t.function ≡ None → main_run f t.handle r.script ≡ Some r.run → Did f t
         main s e =
             let first = first_handle t.handle in
-            let m = option_map_some (acting (Start ∷ creating first f.created)) (joins_run f.checks first f.created r.script) r.run e in
+            let m = from_option_map (acting (Start ∷ creating first f.created)) (joins_run f.checks first f.created r.script) r.run e in
             creates m.0.actions s (r.actions ∙ ap (λ q. q.actions) (sym m.2)) (joins_only f.checks first f.created r.script m.0 m.1)
 
 -- each place of the writes is a write of the number there
 writing_at : (vs : List ℕ) (i : ℕ) (a : Action) → slice_get (writing vs) i ≡ Some a → (v : ℕ) × (slice_get vs i ≡ Some v) × (Write 0 v ≡ a)
-writing_at vs i a e = option_map_some (λ v. Write 0 v) (slice_get vs i) a (sym (slice_get-map (λ v. Write 0 v) vs i) ∙ e)
+writing_at vs i a e = from_option_map (λ v. Write 0 v) (slice_get vs i) a (sym (slice_get-map (λ v. Write 0 v) vs i) ∙ e)
 
 -- each place of the creates is one of the function there
 creating_at : (h : ℕ) (fs : List ℕ) (i : ℕ) (a : Action) → slice_get (creating h fs) i ≡ Some a → (g : ℕ) × (slice_get fs i ≡ Some g) × (Create (h + i) g 0 ≡ a)

@@ -4,6 +4,7 @@ use Rattle.std.specs.Prelude.{nat_lt, ◌^◌}
 use Rattle.std.proofs.lemmas.Bool.{and_parts, eqb-true}
 use Rattle.std.proofs.lemmas.Option.{same_Some}
 use Rattle.std.proofs.lemmas.Slice.Eq.{bytes_eq-Decides}
+use Rattle.dg_base.proofs.Lists.{from_option_map}
 use Rattle.dg_base.specs.declared.Place.{Place}
 use Rattle.c_tree.specs.declared.expr.BinaryOp.TheVariants as binary
 use Rattle.c_tree.specs.declared.expr.AssignOp.TheVariants as assign
@@ -14,7 +15,7 @@ use Rattle.c_tree.specs.declared.stmt.Stmt.TheOpen.{Stmt-F}
 use Rattle.first_form.specs.declared.form.FormCheck.{FormCheck}
 use Rattle.first_form.specs.declared.form.FormThread.{FormThread}
 use Rattle.first_form.specs.Trees.{Name, name_of, name_in, number_of, number_in, is_zero, is_zero_number, is_same, is_named, is_cell, is_address_in, effect_in, assigned_in, compared, compared_in, call_in, check_with, create_with, number_among, joins, is_return_in, is_address}
-use Rattle.first_form.proofs.Parts.{given-some, and_then-some, map-some}
+use Rattle.first_form.proofs.Parts.{given-some, and_then-some}
 
 -- equal names
 pub same_name : (m n : Name) → bytes_eq m n ≡ true → m ≡ n
@@ -122,7 +123,7 @@ pub record Checks (cell : Option Name) (q : Place × List Expr) (c : FormCheck) 
 pub checks_parts : (cell : Option Name) (q : Place × List Expr) (c : FormCheck) → check_with cell q ≡ Some c → Checks cell q c
 checks_parts cell (p, []) c e = absurd cc
 checks_parts cell (p, x ∷ []) c e =
-    let m = map-some (λ v. let made : FormCheck = record { place = p; value = v } in made) (compared cell x) c e in
+    let m = from_option_map (λ v. let made : FormCheck = record { place = p; value = v } in made) (compared cell x) c e in
     record { test = x; args = refl; place = ap (λ (k : FormCheck). k.place) m.2; compares = m.1 ∙ ap (λ (k : FormCheck). Some k.value) m.2 }
 checks_parts cell (p, x ∷ y ∷ xs) c e = absurd cc
 

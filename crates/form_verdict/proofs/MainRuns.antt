@@ -1,7 +1,7 @@
 -- What a failed run of main did: it joined every created thread, and then it read a value that an assertion does not allow.
 use Rattle.std.proofs.Common.{◌≡◌, ◌≢◌, ℕ, zero, suc, ◌+◌, ◌<◌, List, [], ◌∷◌, ◌++◌, Some, None, refl, ap, ◌∙◌, subst, arith, length}
 use Rattle.std.specs.Prelude.{slice_get}
-use Rattle.dg_base.proofs.Lists.{get_append_right}
+use Rattle.dg_base.proofs.Lists.{get_append_right, from_option_map}
 use Rattle.dg_base.specs.declared.Place.{Place}
 use Rattle.axiom_model.specs.declared.Action.{Action}
 use Rattle.axiom_model.specs.declared.Action.TheVariants.{Read, Join, Start}
@@ -9,7 +9,7 @@ use Rattle.axiom_model.specs.Failing.{Run}
 use Rattle.first_form.specs.declared.form.Form.{Form}
 use Rattle.first_form.specs.declared.form.FormCheck.{FormCheck}
 use Rattle.form_verdict.proofs.Runs.{ended, acting, checks_run, joins_run, creating, first_handle, main_run}
-use Rattle.form_verdict.proofs.RunSteps.{option_map_some, CheckStep, check_step, JoinStep, join_step}
+use Rattle.form_verdict.proofs.RunSteps.{CheckStep, check_step, JoinStep, join_step}
 
 -- the actions hold a read of a value other than an assertion's, and before it the joins of so many handles from this one on
 pub record WrongRead (cs : List FormCheck) (h n : ℕ) (acts : List Action) : Type 0 where
@@ -99,6 +99,6 @@ joins_failed cs h (g ∷ fs) (go ∷ script) r at e f = on (λ q d k. joins_fail
 pub main_failed : (f : Form) (own : ℕ) (script : List ℕ) (r : Run) (at : Place) → main_run f own script ≡ Some r → r.failed ≡ Some at → WrongRead f.checks (first_handle own) (length f.created) r.actions
 main_failed f own script r at e g =
     let first = first_handle own in
-    let m = option_map_some (acting (Start ∷ creating first f.created)) (joins_run f.checks first f.created script) r e in
+    let m = from_option_map (acting (Start ∷ creating first f.created)) (joins_run f.checks first f.created script) r e in
     subst (λ z. WrongRead f.checks first (length f.created) z.actions) m.2
     (behind f.checks first (length f.created) (Start ∷ creating first f.created) m.0.actions (joins_failed f.checks first f.created script m.0 at m.1 (ap (λ z. z.failed) m.2 ∙ g)))

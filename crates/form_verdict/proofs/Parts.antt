@@ -7,6 +7,7 @@ use Rattle.std.proofs.lemmas.Bool.{and_parts, not-true}
 use Rattle.std.proofs.lemmas.Iterator.Adapters.{position_from-zero}
 use Rattle.std.proofs.lemmas.Option.{same_Some, slice_get_within}
 use Rattle.std.proofs.lemmas.Slice.Eq.{bytes_eq-Decides}
+use Rattle.dg_base.proofs.Lists.{from_option_map}
 use Rattle.c_tree.specs.declared.expr.Expr.{Expr}
 use Rattle.c_tree.specs.declared.expr.TypeWord.{TypeWord}
 use Rattle.c_tree.specs.declared.expr.TypeWord.TheVariants as type
@@ -29,7 +30,7 @@ use Rattle.first_form.specs.declared.form.FormThread.{FormThread}
 use Rattle.first_form.specs.Reserved.{is_reserved}
 use Rattle.first_form.specs.Trees.{Name, all_of, but_last, last_of, is_own, is_int, is_pointer, number_among}
 use Rattle.first_form.specs.Whole as whole
-use Rattle.first_form.proofs.Parts.{given-some, and_then-some, map-some, first-some}
+use Rattle.first_form.proofs.Parts.{given-some, and_then-some, first-some}
 use Rattle.form_verdict.proofs.Runs.{initials_of}
 use Rattle.form_verdict.proofs.Lists as lists
 use Rattle.form_verdict.proofs.Variables.{cell_variable, cell_shared}
@@ -80,7 +81,7 @@ is_thread cell g t e =
     let r = given-some (is_pointer g.word && is_own g.name && whole.is_parameter cell g.params) (option_map made (whole.writes_of cell g.body)) t e in
     let p = and_parts (is_pointer g.word && is_own g.name) (whole.is_parameter cell g.params) r.0 in
     let q = and_parts (is_pointer g.word) (is_own g.name) p.0 in
-    let m = map-some made (whole.writes_of cell g.body) t r.1 in
+    let m = from_option_map made (whole.writes_of cell g.body) t r.1 in
     record { name = ap (λ (u : FormThread). u.name) m.2; own = q.1; params = p.1; writes = m.1 ∙ ap (λ (u : FormThread). Some u.writes) m.2 }
 
 -- the functions of the items that are threads of the form

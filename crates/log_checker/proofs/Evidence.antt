@@ -14,8 +14,7 @@ use Rattle.cnf_problem.specs.Edges.Path.{last, then}
 use Rattle.cnf_problem.specs.Laws.{IsWithin}
 use Rattle.cnf_problem.specs.Problems.{FollowInTurn, Follows, FollowsBy}
 use Rattle.cnf_problem.proofs.ChainLaws.{fixpoint_no_conflict}
-use Rattle.cnf_problem.proofs.Members.{from_map}
-use Rattle.dg_base.proofs.Lists.{contains_place}
+use Rattle.dg_base.proofs.Lists.{contains_place, get_there, contains_from_map}
 use Rattle.cnf_problem.proofs.LemmaLaws.{in_turn_push}
 use Rattle.cnf_problem.specs.declared.problem.Lemma.{Lemma}
 use Rattle.lemma_log.specs.declared.Entry.{Entry}
@@ -53,7 +52,7 @@ no_cycle_in nodes order E n is forward path =
 
 rest_within : (clauses : List (List Lit)) (lits reached : List Lit) → IsRest clauses lits reached → IsWithin (map negated lits) reached
 rest_within clauses lits reached rest y c =
-    let m = from_map negated lits y c in
+    let m = contains_from_map negated lits y c in
     subst (λ z. Contains reached z) (sym m.2) (rest.negations m.0 m.1)
 
 -- a variable that the problem doesn't have
@@ -91,7 +90,7 @@ map_twice [] = refl
 map_twice (e ∷ es) = ap (λ l. e.lemma.lits ∷ l) (map_twice es)
 
 -- in a list of lemmas that follow in turn each follows from those before it
-in_turn_at : (p : Problem) (cs : List (List Lit)) (es : List Entry) (k : ℕ) (e : Entry) → FollowInTurn p cs (lemmas_of es) → slice_get es k ≡ Some e → Follows p (cs ++ clauses_of (take k es)) e.lemma
+pub in_turn_at : (p : Problem) (cs : List (List Lit)) (es : List Entry) (k : ℕ) (e : Entry) → FollowInTurn p cs (lemmas_of es) → slice_get es k ≡ Some e → Follows p (cs ++ clauses_of (take k es)) e.lemma
 in_turn_at p cs [] k e h g = absurd (cc)
 in_turn_at p cs (d ∷ es) zero e h g =
     let same : d ≡ e = cc in
@@ -121,15 +120,10 @@ pub lemmas_push : (es : List Entry) (e : Entry) → lemmas_of (es ++ e ∷ []) �
 lemmas_push [] e = refl
 lemmas_push (d ∷ es) e = ap (λ l. d.lemma ∷ l) (lemmas_push es e)
 
-within_place : {X : Type 0} (xs : List X) (k : ℕ) → k < length xs → (x : X) × (slice_get xs k ≡ Some x)
-within_place [] k h = absurd (omega arith)
-within_place (x ∷ xs) zero h = (x, refl)
-within_place (x ∷ xs) (suc k) h = within_place xs k (omega arith)
-
 good_up_to : (p : Problem) (entries : List Entry) (hints : List (List Hint)) → IsGoodHinted p entries hints → (n : ℕ) → n ≤ length entries → IsGood p (take n entries)
 good_up_to p entries hints h zero le = tt
 good_up_to p entries hints h (suc n) le =
-    let at = within_place entries n (omega arith) in
+    let at = get_there entries n (omega arith) in
     let e = at.0 in
     let before = good_up_to p entries hints h n (omega arith) in
     let follows = hinted_follows p (clauses_of (take n entries)) e (hints_at hints n) (h n e at.1) in

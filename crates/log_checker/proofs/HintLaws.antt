@@ -1,7 +1,8 @@
 -- Right hints and unit chains.
 use Rattle.std.proofs.Common.{◌≡◌, ◌≢◌, inl, inr, ℕ, suc, zero, List, [], ◌∷◌, ◌++◌, map, Some, refl, sym, subst, ap, ◌∙◌}
-use Rattle.std.specs.Prelude.{Contains, slice_get}
+use Rattle.std.specs.Prelude.{Contains}
 use Rattle.std.proofs.lemmas.List.Elements.{Contains-append_left, Contains-append_right, Contains-append_cases}
+use Rattle.dg_base.proofs.Lists.{contains_place, place_of}
 use Rattle.dg_base.specs.declared.Lit.{Lit}
 use Rattle.cnf_problem.specs.declared.problem.Problem.{Problem}
 use Rattle.cnf_problem.specs.declared.problem.LemmaKind.{LemmaKind}
@@ -12,7 +13,7 @@ use Rattle.cnf_problem.specs.Laws.{IsWithin}
 use Rattle.cnf_problem.specs.Problems.{FollowsBy}
 use Rattle.cnf_problem.proofs.ChainLaws.{all_false_more, others_false_more, within_both, within_cons}
 use Rattle.cnf_problem.proofs.LiteralLaws.{lit_eq_or_not}
-use Rattle.cnf_problem.proofs.Members.{contains_cases, contains_head, contains_nothing, contains_or_not, contains_tail}
+use Rattle.cnf_problem.proofs.Members.{contains_or_not}
 use Rattle.lemma_log.specs.declared.hints.Hint.{Hint}
 use Rattle.lemma_log.specs.declared.hints.Hint.TheVariants.{Clause, Ticket}
 use Rattle.log_checker.specs.Hints.{AreRight, Gives, GoesWrong, HintedBy, IsRightNext, named}
@@ -20,25 +21,11 @@ use Rattle.log_checker.specs.Hints.AreRight.{last, next}
 use Rattle.log_checker.specs.Hints.GoesWrong.{none, at_last, at_next, later}
 use Rattle.log_checker.specs.Laws.{FollowingHasHints, HintedFollows, OneWrongPosition, WrongIsNotRight}
 
--- what stands at a place is an element, and an element has a place
-at_place : {X : Type 0} (xs : List X) (k : ℕ) (x : X) → slice_get xs k ≡ Some x → Contains xs x
-at_place [] k x e = absurd (cc)
-at_place (y ∷ ys) zero x e = let f : y ≡ x = cc in subst (λ z. Contains (y ∷ ys) z) f (contains_head y ys)
-at_place (y ∷ ys) (suc k) x e = contains_tail y x ys (at_place ys k x e)
-
-place_of : {X : Type 0} (xs : List X) (x : X) → Contains xs x → (k : ℕ) × (slice_get xs k ≡ Some x)
-place_of [] x h = absurd (contains_nothing x h)
-place_of (y ∷ ys) x h =
-    elim (contains_cases y x ys h) [
-      | inl e ↦ (0, ap Some (sym e))
-      | inr m ↦ let r = place_of ys x m in (suc r.0, r.1)
-    ]
-
 -- a clause that a hint names is one of the problem's or of the entries'; and each of these has a hint
 named_listed : (p : Problem) (before : List (List Lit)) (h : Hint) (clause : List Lit) → named p before h ≡ Some clause → Contains (p.clauses ++ before) clause
 named_listed p before (Clause zero) clause e = cc
-named_listed p before (Clause (suc n)) clause e = Contains-append_left p.clauses before clause (at_place p.clauses n clause e)
-named_listed p before (Ticket t) clause e = Contains-append_right p.clauses before clause (at_place before t clause e)
+named_listed p before (Clause (suc n)) clause e = Contains-append_left p.clauses before clause (contains_place p.clauses n clause e)
+named_listed p before (Ticket t) clause e = Contains-append_right p.clauses before clause (contains_place before t clause e)
 
 listed_named : (p : Problem) (before : List (List Lit)) (clause : List Lit) → Contains (p.clauses ++ before) clause → (h : Hint) × (named p before h ≡ Some clause)
 listed_named p before clause c =

@@ -91,7 +91,7 @@ fn joined(alloc: Global, held: &[u8], piece: &[u8]) -> Result<Vec<u8>, OutOfMemo
 
 impl LogReader {
     // A reader that was fed nothing; whether it reads the format without hints alone.
-    pub fn of(alloc: Global, plain_only: bool) -> Result<LogReader, OutOfMemory>
+    pub(crate) fn of(alloc: Global, plain_only: bool) -> Result<LogReader, OutOfMemory>
         ensures { IfOk result (λ r. HasRead plain_only r [] []) }
     {
         Ok(LogReader {

@@ -5,12 +5,12 @@ use Rattle.std.proofs.lemmas.List.Sums.{sum_by-set}
 use Rattle.std.proofs.lemmas.Bool.{cases_lt}
 use Rattle.std.proofs.lemmas.List.{length_push}
 use Rattle.std.proofs.lemmas.List.Elements.{Contains-append_cases}
-use Rattle.dg_base.proofs.Lists.{get_append_left, place_of, get_push_cases, get_push_last}
+use Rattle.dg_base.proofs.Lists.{get_append_left, place_of, get_push_cases, get_push_last, contains_nothing, contains_from_map}
 use Rattle.dg_base.specs.declared.Lit.{Lit}
 use Rattle.cnf_problem.specs.declared.problem.Lemma.{Lemma}
 use Rattle.cnf_problem.specs.declared.problem.Problem.{Problem}
 use Rattle.cnf_problem.specs.Problems.{IsConsistent, Follows}
-use Rattle.cnf_problem.proofs.Members.{contains_nothing, contains_take, from_map}
+use Rattle.cnf_problem.proofs.Members.{contains_take}
 use Rattle.cnf_problem.proofs.LemmaLaws.{follows_more}
 use Rattle.search_core.specs.declared.Verdict.{Verdict}
 use Rattle.search_core.specs.declared.Verdict.TheVariants.{Safe, Unsafe}
@@ -155,7 +155,7 @@ module _ (p : Problem) (s : State) (i : ℕ) (lemma : Lemma) (inside : i < lengt
       | inl old ↦ kept.logs.follows j k e old cs (λ l m f g lt. low l m f (entry_stays l m f g) lt)
       | inr r ↦
           let within = (λ (x : List Lit) (c : Contains (lits_of (known s i)) x).
-          let q = from_map (λ (y : Entry). y.lemma.lits) (known s i) x c in
+          let q = contains_from_map (λ (y : Entry). y.lemma.lits) (known s i) x c in
           let w = known_entry s i q.0 kept.shares q.1 in
           let lt : q.0.ticket < e.ticket = (let b = kept.logs.below w.0 w.1 q.0 w.2 in let t = ap (λ (z : Entry). z.ticket) r.2 in omega arith) in
           subst (λ z. Contains cs z) (sym q.2) (low w.0 w.1 q.0 (entry_stays w.0 w.1 q.0 w.2) lt)) in

@@ -5,12 +5,11 @@ use Rattle.std.proofs.lemmas.Bool.Decides.{nat_tests}
 use Rattle.std.proofs.lemmas.List.{append_assoc, append-nil, length_push}
 use Rattle.std.proofs.lemmas.List.Elements.{Contains-append_cases, Contains-append_left, Contains-append_right}
 use Rattle.std.proofs.lemmas.Option.{same_Some}
-use Rattle.dg_base.proofs.Lists.{get_there, get_nothing, contains_place, get_push_cases}
+use Rattle.dg_base.proofs.Lists.{get_there, get_nothing, contains_place, get_push_cases, contains_head, contains_tail, contains_nothing, contains_cases, contains_map, contains_from_map}
 use Rattle.dg_base.specs.declared.Lit.{Lit}
 use Rattle.cnf_problem.specs.declared.problem.Problem.{Problem}
 use Rattle.cnf_problem.specs.Literals.{IsSatisfied}
 use Rattle.cnf_problem.specs.Problems.{IsConsistent, Follows, FollowInTurn}
-use Rattle.cnf_problem.proofs.Members.{contains_head, contains_tail, contains_cases, contains_nothing, from_map, contains_map}
 use Rattle.cnf_problem.proofs.LemmaLaws.{follows_sound, follows_more}
 use Rattle.search_core.specs.declared.Verdict.{Verdict}
 use Rattle.search_core.specs.declared.Verdict.TheVariants.{Safe, Unsafe}
@@ -83,7 +82,7 @@ refutes p s kept i k e h none a ok =
 pub no_opposite_offers : NoOppositeOffers
 no_opposite_offers p n m s t r q i j (inside, safe) (inside2, model) =
     let k = kept_reached p n s r in
-    let f = from_map (λ (e : Entry). e.lemma.lits) (known s i) [] safe in
+    let f = contains_from_map (λ (e : Entry). e.lemma.lits) (known s i) [] safe in
     let w = known_entry s i f.0 k.shares f.1 in
     refutes p s k.logs w.0 w.1 f.0 w.2 (sym f.2) model.0 model.1
 

@@ -6,10 +6,9 @@ use Rattle.std.proofs.lemmas.List.Folds.{sum_by-replicate}
 use Rattle.std.proofs.lemmas.Bool.{cases_eq, cases_lt}
 use Rattle.std.proofs.lemmas.List.{length-replicate, get_or-replicate, get_or_past, get_or-set_same, get_or-set_other, set_past, length_push}
 use Rattle.std.proofs.lemmas.List.Elements.{Contains-push_cases, Contains-append_left}
-use Rattle.dg_base.proofs.Lists.{get_nothing}
+use Rattle.dg_base.proofs.Lists.{get_nothing, contains_nothing, contains_from_map}
 use Rattle.cnf_problem.specs.declared.problem.Lemma.{Lemma}
 use Rattle.cnf_problem.specs.declared.problem.Problem.{Problem}
-use Rattle.cnf_problem.proofs.Members.{contains_nothing, from_map}
 use Rattle.search_core.specs.declared.Verdict.{Verdict}
 use Rattle.search_core.specs.declared.Verdict.TheVariants.{Safe, Unsafe}
 use Rattle.search_core.specs.declared.Entry.{Entry}
@@ -164,7 +163,7 @@ kept_offer p s i v kept may = record {
     stands (Some Unsafe) h v may = h
     stands None h Unsafe (inside, model) = model
     stands None h Safe (inside, listed) =
-        let r = from_map (λ (e : Entry). e.lemma.lits) (known s i) [] listed in
+        let r = contains_from_map (λ (e : Entry). e.lemma.lits) (known s i) [] listed in
         let q = known_entry s i r.0 kept.shares r.1 in
         (q.0, q.1, r.0, q.2, sym r.2)
 

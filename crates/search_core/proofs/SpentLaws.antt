@@ -3,9 +3,8 @@ use Rattle.std.proofs.Common.{◌≡◌, ◌++◌, take, get_or, sym, ◌∙◌,
 use Rattle.std.specs.Prelude.{Contains}
 use Rattle.std.proofs.lemmas.List.Elements.{Contains-append_left, Contains-append_right}
 use Rattle.std.proofs.lemmas.Option.{slice_get-get_or, same_Some}
-use Rattle.dg_base.proofs.Lists.{contains_place}
+use Rattle.dg_base.proofs.Lists.{contains_place, contains_map}
 use Rattle.cnf_problem.specs.Chains.{IsNew}
-use Rattle.cnf_problem.proofs.Members.{contains_map}
 use Rattle.cnf_problem.proofs.ChainLaws.{new_differs}
 use Rattle.search_core.specs.declared.Entry.{Entry}
 use Rattle.search_core.specs.Core.{worker, readable, lits_of}

@@ -3,6 +3,7 @@ use Rattle.std.proofs.Common.{◌≡◌, ◌≢◌, ℕ, zero, suc, ◌+◌, ◌
 use Rattle.std.specs.Prelude.{Contains, All, MatchBool}
 use Rattle.std.proofs.lemmas.List.{length-append, length-replicate, map-append}
 use Rattle.std.proofs.lemmas.List.Elements.{All-contains, Contains-append_left, Contains-append_right, Contains-append_cases}
+use Rattle.dg_base.proofs.Lists.{contains_head, contains_nothing, contains_cases, contains_map}
 use Rattle.dg_base.specs.declared.Lit.{Lit}
 use Rattle.cnf_problem.specs.declared.problem.Lemma.{Lemma}
 use Rattle.cnf_problem.specs.declared.problem.LemmaKind.TheVariants.{Unit as ByUnit}
@@ -10,7 +11,6 @@ use Rattle.cnf_problem.specs.declared.problem.Problem.{Problem}
 use Rattle.cnf_problem.specs.Literals.{negated, IsOver}
 use Rattle.cnf_problem.specs.Chains.{done}
 use Rattle.cnf_problem.specs.Problems.{Follows, FollowsBy}
-use Rattle.cnf_problem.proofs.Members.{contains_head, contains_cases, contains_nothing, contains_map}
 use Rattle.cnf_problem.proofs.LemmaLaws.{follows_more}
 use Rattle.search_core.specs.declared.Entry.{Entry}
 use Rattle.lemma_log.specs.declared.Entry as Logged

@@ -3,10 +3,10 @@ use Rattle.std.proofs.Common.{◌≡◌, ◌≢◌, ℕ, ◌+◌, ◌%◌, ◌�
 use Rattle.std.specs.Prelude.{Contains}
 use Rattle.std.proofs.lemmas.Bool.{cases_eq}
 use Rattle.std.proofs.lemmas.Bool.Decides.{nat_tests}
+use Rattle.dg_base.proofs.Lists.{contains_head, contains_tail, contains_nothing, contains_cases}
 use Rattle.dg_base.specs.declared.Lit.{Lit}
 use Rattle.cnf_problem.specs.Literals.{var, is_positive, negated}
 use Rattle.cnf_problem.specs.Chains.{IsUnassigned}
-use Rattle.cnf_problem.proofs.Members.{contains_head, contains_tail, contains_nothing, contains_cases}
 use Rattle.cnf_problem.proofs.LiteralLaws.{same_lit, negated-even, negated-odd, parity, var-negated}
 use Rattle.trail_state.specs.Trails.{Assigned, Decided, Forced, lit_of, reason, true_lits, level, level_of, reason_of, IsAssigned}
 use Rattle.trail_state.specs.Slots.{value_of}

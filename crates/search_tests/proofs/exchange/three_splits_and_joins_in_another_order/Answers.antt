@@ -1,10 +1,10 @@
 use Rattle.std.proofs.Common.{List, [], ◌∷◌, ap, sym, ◌∙◌, subst, lit≤}
 use Rattle.std.specs.Prelude.{Contains}
+use Rattle.dg_base.proofs.Lists.{contains_head}
 use Rattle.dg_base.specs.declared.Lit.{Lit}
 use Rattle.cnf_problem.specs.declared.problem.Problem.{Problem}
 use Rattle.cnf_problem.specs.Formulas.{true_lit}
 use Rattle.cnf_problem.specs.Problems.{Follows}
-use Rattle.cnf_problem.proofs.Members.{contains_head}
 use Rattle.clause_exchange.specs.declared.rule.View.{View}
 use Rattle.clause_exchange.specs.Steps.{mine}
 use Rattle.search_tests.proofs.NewSeats.{cut_at_one, cut_at_two, cut_at_three, zeroth_seat, first_seat, second_seat, third_seat, all_joined}

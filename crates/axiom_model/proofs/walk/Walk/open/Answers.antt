@@ -1,7 +1,7 @@
 use Rattle.std.proofs.Common.{arith, lit<}
 use Rattle.std.proofs.lemmas.Option.{slice_get_within}
+use Rattle.dg_base.proofs.Lists.{get_set_same}
 use Rattle.axiom_model.specs.declared.walk.Mark.TheVariants.{New, Open}
-use Rattle.axiom_model.proofs.Places.{place_set_same}
 use Rattle.axiom_model.proofs.Walking.{open_keeps, marks_less, set_onward}
 use Rattle.axiom_model.proofs.walk.Walk.open.Goals as goal
 
@@ -14,7 +14,7 @@ returns-clause-onward c = set_onward c.args.self.now _ c.args.node Open c.set.en
 
 pub returns-clause-met : goal.returns-clause-met
 returns-clause-met c =
-    rw c.set.ensures (place_set_same c.args.self.now.marks c.args.node Open (slice_get_within c.args.self.now.marks c.args.node New c.requires.fresh))
+    rw c.set.ensures (get_set_same c.args.self.now.marks c.args.node Open (slice_get_within c.args.self.now.marks c.args.node New c.requires.fresh))
 
 pub returns-clause-less : goal.returns-clause-less
 returns-clause-less c =

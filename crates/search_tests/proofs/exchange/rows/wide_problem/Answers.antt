@@ -1,9 +1,9 @@
 use Rattle.std.proofs.Common.{List, [], ◌∷◌, ◌∙◌, ap, sym, subst, refl}
 use Rattle.std.specs.Prelude.{Contains}
 use Rattle.std.proofs.lemmas.List.Elements.{Contains-append_right}
+use Rattle.dg_base.proofs.Lists.{contains_head}
 use Rattle.dg_base.specs.declared.Lit.{Lit}
 use Rattle.cnf_problem.specs.Formulas.{Formula}
-use Rattle.cnf_problem.proofs.Members.{contains_head}
 use Rattle.search_tests.proofs.Readiness.{follows_clause}
 use Rattle.search_tests.proofs.exchange.rows.wide_problem.Goals as goal
 
