@@ -8,7 +8,7 @@ ghost use Rattle.run_model.specs.Statements.{eval_if};
 ghost use Rattle.run_model.specs.Steps.{State, in_turn};
 ghost use Rattle.run_model.specs.Running.{Gives, context_at};
 
-use crate::operators::{settles, step_op, truth, unary};
+use crate::operators::{settles, step_op, truth, unary_op};
 use crate::state::{Runner, Slot, Stop, fail, inner};
 use crate::table::Table;
 use c_tree::{AssignOp, BinaryOp, Expr, StepOp, binary_op, divides};
@@ -48,7 +48,7 @@ impl<'a> Runner<'a> {
             }
             Expr::Unary { op, inner, .. } => {
                 let v = self.eval(table, room, inner.get())?;
-                Ok(unary(*op, v))
+                Ok(apply(unary_op(*op), &[v]))
             }
             Expr::StepBefore { place, op, target } => {
                 let (_, after) = self.count(table, room, *place, *op, target.get())?;

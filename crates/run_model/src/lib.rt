@@ -23,5 +23,7 @@ mod thread;
 mod types;
 
 pub use laws::{calls_have_fuel, creates_are_numbered, runs_depend_on_what_they_used};
+pub use operators::{step_op, unary_op, unary_unsigned, word_unsigned};
 pub use state::{Ending, Need};
+pub use table::{cell_count, count_functions};
 pub use thread::{RunStop, ThreadRun, run_thread};

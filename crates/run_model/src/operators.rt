@@ -1,10 +1,10 @@
 // What operators and types mean, by the forms of the tree.
-ghost use Rattle.std.specs.Prelude.{◌≡◌, ◌∷◌, []};
+ghost use Rattle.std.specs.Prelude.{◌≡◌};
 ghost use Rattle.dg_base.specs.Values as values;
 ghost use Rattle.c_tree.specs.Operators as operators;
 
 use c_tree::{BinaryOp, StepOp, TypeWord, UnaryOp};
-use dg_base::{Op, apply};
+use dg_base::Op;
 
 /// 1 for a value that is true, 0 for 0.
 pub(crate) fn truth(x: u32) -> u32
@@ -25,7 +25,7 @@ pub(crate) fn settles(op: BinaryOp, x: u32) -> bool
 }
 
 /// The operator of `++` or `--`.
-pub(crate) fn step_op(op: StepOp) -> BinaryOp
+pub fn step_op(op: StepOp) -> BinaryOp
     ensures { result ≡ operators.step_op op }
 {
     match op {
@@ -34,20 +34,20 @@ pub(crate) fn step_op(op: StepOp) -> BinaryOp
     }
 }
 
-/// The value of an operator before its operand.
-pub(crate) fn unary(op: UnaryOp, v: u32) -> u32
-    ensures { result ≡ values.value_of (operators.unary_op op) (v ∷ []) }
+/// The operator on words of an operator before its operand.
+pub fn unary_op(op: UnaryOp) -> Op
+    ensures { result ≡ operators.unary_op op }
 {
     match op {
-        UnaryOp::LogicNot => apply(Op::LogicNot, &[v]),
-        UnaryOp::BitNot => apply(Op::BitNot, &[v]),
-        UnaryOp::Negate => apply(Op::Negate, &[v]),
-        UnaryOp::Plus => apply(Op::UnaryPlus, &[v]),
+        UnaryOp::LogicNot => Op::LogicNot,
+        UnaryOp::BitNot => Op::BitNot,
+        UnaryOp::Negate => Op::Negate,
+        UnaryOp::Plus => Op::UnaryPlus,
     }
 }
 
 /// Whether the value of an operator before its operand is Uint, for an operand of this type.
-pub(crate) fn unary_unsigned(op: UnaryOp, inner: bool) -> bool
+pub fn unary_unsigned(op: UnaryOp, inner: bool) -> bool
     ensures { result ≡ operators.unary_unsigned op inner }
 {
     match op {
@@ -59,7 +59,7 @@ pub(crate) fn unary_unsigned(op: UnaryOp, inner: bool) -> bool
 }
 
 /// Whether a value of this type is Uint.
-pub(crate) fn word_unsigned(word: TypeWord) -> bool
+pub fn word_unsigned(word: TypeWord) -> bool
     ensures { result ≡ operators.word_unsigned word }
 {
     match word {

@@ -78,7 +78,7 @@ impl<'a> Table<'a> {
 }
 
 /// The number of functions with a body.
-pub(crate) fn count_functions(items: &[Item]) -> usize
+pub fn count_functions(items: &[Item]) -> usize
     ensures { result ≡ length (functions_of items.now) }
 {
     let mut n = 0usize;
@@ -91,7 +91,7 @@ pub(crate) fn count_functions(items: &[Item]) -> usize
 }
 
 /// The number of cells of a variable.
-pub(crate) fn cell_count(declarator: &Declarator) -> u32
+pub fn cell_count(declarator: &Declarator) -> u32
     ensures { result ≡ cell_count declarator.now }
 {
     match &declarator.size {
