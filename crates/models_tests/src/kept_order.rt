@@ -1,8 +1,4 @@
-ghost use Rattle.std.specs.Prelude.{◌≡◌, ◌+◌, ◌<◌, ◌↔◌, IsTrue, length};
-ghost use Rattle.memory_models.specs.declared.StaticKind.TheVariants.{Full as full, Initial as initial};
-ghost use Rattle.memory_models.specs.Events.{AreStatic};
-ghost use Rattle.models_tests.specs.Listed.{Follows, IsPlaced};
-
+use crate::listed::{are_static, is_initial};
 use axiom_model::MemoryModel;
 use cnf_problem::Graph;
 use dg_base::{Lit, OutOfMemory};
@@ -12,79 +8,7 @@ use std::test::Fail;
 
 const MODELS: [MemoryModel; 3] = [MemoryModel::Sc, MemoryModel::Tso, MemoryModel::Pso];
 
-// ---- lists of events
-
-fn is_initial(event: &StaticEvent) -> bool
-    ensures { IsTrue result ↔ (event.now.kind ≡ initial) }
-{
-    matches!(event.kind, StaticKind::Initial)
-}
-
-fn is_full(event: &StaticEvent) -> bool
-    ensures { IsTrue result ↔ (event.now.kind ≡ full) }
-{
-    matches!(event.kind, StaticKind::Full)
-}
-
-// Whether an event may stand behind another at a place.
-fn follows(place: u32, event: &StaticEvent, next: &StaticEvent) -> bool
-    ensures { IsTrue result → Follows place event.now next.now }
-{
-    let acts = !is_initial(event) && !is_initial(next);
-    if place < u32::MAX && next.block == place + 1 {
-        (is_initial(event) || !is_initial(next))
-            && (!acts || event.instance <= next.instance)
-            && (event.block >= place || is_full(event))
-    } else {
-        acts && next.block == event.block
-            && event.instance == next.instance
-            && (event.block != place || is_full(event))
-    }
-}
-
-// Whether the first event is a block of its own.
-fn is_first(place: u32, event: &StaticEvent) -> bool
-    ensures { IsTrue result → place ≡ 0 → event.now.block ≡ 0 }
-{
-    place != 0 || event.block == 0
-}
-
-// Whether a section that is open at the last event ends with it.
-fn is_last(place: u32, event: &StaticEvent) -> bool
-    ensures { IsTrue result → event.now.block < place → event.now.kind ≡ full }
-{
-    event.block >= place || is_full(event)
-}
-
-// Whether the event at a place stands rightly there, and before the next.
-fn is_placed(events: &[StaticEvent], place: u32) -> bool
-    requires { place < length events.now }
-    ensures { IsTrue result → IsPlaced events.now place }
-{
-    let event = events[place as usize];
-    if !is_first(place, &event) {
-        return false;
-    }
-    match events.get(place as usize + 1) {
-        Some(next) => follows(place, &event, next),
-        None => is_last(place, &event),
-    }
-}
-
-// Whether the events may be handed to `static_edges`: its conditions, seen at each event and the next.
-fn are_static(events: &[StaticEvent]) -> bool
-    ensures { IsTrue result → AreStatic events.now }
-{
-    let Ok(count) = u32::try_from(events.len()) else {
-        return false;
-    };
-    for place in 0..count {
-        if !is_placed(events, place) {
-            return false;
-        }
-    }
-    true
-}
+// ---- events
 
 fn event(instance: u32, kind: StaticKind, cell: u32, block: u32) -> StaticEvent {
     StaticEvent {

@@ -4,3 +4,4 @@
 
 #[cfg(test)]
 mod kept_order;
+pub mod listed;
