@@ -1,0 +1,6 @@
+pub mod Before
+pub mod Cells
+pub mod Choosing
+pub mod Counting
+pub mod Lines
+pub mod Reading
