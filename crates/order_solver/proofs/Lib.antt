@@ -1,0 +1,11 @@
+pub mod Building
+pub mod Checking
+pub mod Counting
+pub mod Cycles
+pub mod Deriving
+pub mod Growing
+pub mod Grown
+pub mod Holding
+pub mod Looking
+pub mod Undoing
+pub mod Working

@@ -1,0 +1,4 @@
+pub mod Fresh
+pub mod Ordering
+pub mod Parts
+pub mod Working
