@@ -1,0 +1,29 @@
+pub mod Trails
+pub mod BlockEnds
+pub mod Ties
+pub mod Acts
+pub mod Moves
+pub mod Turns
+pub mod LocalWalk
+pub mod GlobalWalk
+pub mod Hops
+pub mod CycleLaw
+mod Whole
+mod SpelledOnce
+pub mod PartRuns
+pub mod Creators
+pub mod StartedParts
+pub mod HoldingGraphs
+pub mod SpelledRuns
+pub mod SpelledThreads
+pub mod SpelledMatch
+pub mod FirstThreads
+pub mod Endings
+pub mod FirstCandidate
+pub mod FirstInitials
+pub mod FirstShape
+pub mod FirstMatch
+pub mod FirstActs
+pub mod FirstReads
+pub mod FirstJoins
+pub mod First
