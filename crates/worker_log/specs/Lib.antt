@@ -1,0 +1,4 @@
+pub mod Newness
+pub mod Logs
+pub mod Keeping
+pub mod Laws
