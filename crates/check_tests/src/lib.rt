@@ -2,4 +2,8 @@
 #![tactic(auto)]
 
 #[cfg(test)]
+mod cycles;
+#[cfg(test)]
+mod hinted;
+#[cfg(test)]
 mod logs;

@@ -8,11 +8,12 @@ use std::test::Fail;
 
 // What a check told: of the evidence the number of literals or of nodes.
 #[derive(Debug, Clone, Copy, PartialEq, Eq, Drop)]
-enum Told {
+pub enum Told {
     Accepted(u32),
     BadNumber(u32, u32),
     NotImplied(u32, usize),
     NoCycle(u32, usize),
+    BadHint(u32, u32),
     NoEmpty(u32),
     Other,
 }
@@ -48,7 +49,7 @@ const TEXTS: &[(&str, Told)] = &[
 ];
 
 // A problem whose eight clauses over the variables 2 to 4 leave no values to them.
-fn eight_clauses(alloc: Global) -> Result<Problem, OutOfMemory> {
+pub fn eight_clauses(alloc: Global) -> Result<Problem, OutOfMemory> {
     let mut gates = Gates::new(alloc)?;
     let a = gates.fresh()?;
     let b = gates.fresh()?;
@@ -64,13 +65,13 @@ fn eight_clauses(alloc: Global) -> Result<Problem, OutOfMemory> {
     gates.finish(List::new(alloc), List::new(alloc), List::new(alloc))
 }
 
-fn told_of(refused: Refused) -> Told {
+pub fn told_of(refused: Refused) -> Told {
     match refused {
         Refused::BadNumber(ticket, var) => Told::BadNumber(ticket, var),
         Refused::NotImplied(ticket, reached) => Told::NotImplied(ticket, reached.len()),
         Refused::NoCycle(ticket, local, _) => Told::NoCycle(ticket, local.len()),
         Refused::NoEmpty(entries) => Told::NoEmpty(entries),
-        Refused::BadHint(_, _) => Told::Other,
+        Refused::BadHint(ticket, position) => Told::BadHint(ticket, position),
         Refused::OutOfMemory => Told::Other,
     }
 }
