@@ -61,6 +61,13 @@ kind_1 kind.End h = absurd (omega (arith, h))
 kind_1 kind.Join h = absurd (omega (arith, h))
 kind_1 _ h = absurd (omega (arith, h))
 
+kind_2 : (k : StaticKind) → number_by k ≡ 2 → k ≡ kind.End
+kind_2 kind.End h = refl
+kind_2 kind.Read h = absurd (omega (arith, h))
+kind_2 kind.Write h = absurd (omega (arith, h))
+kind_2 kind.Join h = absurd (omega (arith, h))
+kind_2 _ h = absurd (omega (arith, h))
+
 kind_3 : (k : StaticKind) → number_by k ≡ 3 → k ≡ kind.Join
 kind_3 kind.Join h = refl
 kind_3 kind.Read h = absurd (omega (arith, h))
@@ -99,3 +106,7 @@ join_made s e b v h =
     let k = kind_3 e.kind (numbered s e b e.kind (action.Join v) h) in
     let a : action.Join v ≡ action.Join (number s b.bits) = subst (λ (z : StaticKind). ActsAs s e b z (action.Join v)) k h in
     (k, ap value_in a)
+
+-- an end
+pub end_made : (s : List Bool) (e : StaticEvent) (b : EventBits) → ActsAs s e b e.kind action.End → e.kind ≡ kind.End
+end_made s e b h = kind_2 e.kind (numbered s e b e.kind action.End h)

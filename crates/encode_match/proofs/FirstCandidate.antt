@@ -137,6 +137,21 @@ reads_once s n (e ∷ es) i j r p q = once_more n r (reads_from s (n + 1) es) (r
 
 -- ---- the candidate
 
+-- the problem's order atoms and their clauses
+abbrev pub orders_made : (m : MemoryModel) (flat : Flat) (x : Encoded) → IsMadeOf m flat x → OrdersEvents m x.map.graph.events (words_of x.map.graph.bits) x.problem
+orders_made m flat x made = record {
+  old = made.blasted;
+  new = made.ordered;
+  order_atoms = made.order_atoms;
+  creates = made.create_edges;
+  orders = made.orders;
+  more = ending_clauses made.words made.form.parts;
+  clauses = made.clauses;
+  others = map fence_atom made.fences;
+  atoms = made.atoms;
+  others_plain = λ a c. ap (λ (z : Atom). z.kind) (contains_from_map fence_atom made.fences a c).2;
+}
+
 module _ (m : MemoryModel) (flat : Flat) (x : Encoded) (s : List Bool) (made : IsMadeOf m flat x) (g : GraphHolds m x s) (con : IsConsistent x.problem s) where
   abbrev es : List StaticEvent
   es = x.map.graph.events
@@ -145,18 +160,7 @@ module _ (m : MemoryModel) (flat : Flat) (x : Encoded) (s : List Bool) (made : I
   words = words_of x.map.graph.bits
 
   pub order_events : OrdersEvents m es words x.problem
-  order_events = record {
-    old = made.blasted;
-    new = made.ordered;
-    order_atoms = made.order_atoms;
-    creates = made.create_edges;
-    orders = made.orders;
-    more = ending_clauses made.words made.form.parts;
-    clauses = made.clauses;
-    others = map fence_atom made.fences;
-    atoms = made.atoms;
-    others_plain = λ a c. ap (λ (z : Atom). z.kind) (contains_from_map fence_atom made.fences a c).2;
-  }
+  order_events = orders_made m flat x made
 
   pub one_initial : HasOneInitial es
   one_initial c a b p q =

@@ -54,16 +54,16 @@ use Rattle.encode_match.proofs.FirstThreads.{thread_at, all_threads, all_pairs, 
 use Rattle.encode_match.proofs.Endings.{ends_at, ending_is, guard_listed, guard_where, fails_by, bad_act, bad_false, some_fail, not_broken}
 
 -- where a form has parts in turn it has one
-has_first : (ps : List SsaPart) → 0 ∷ created_in_all ps ≡ counted 0 ps → (q : SsaPart) × (slice_get ps 0 ≡ Some q)
+pub has_first : (ps : List SsaPart) → 0 ∷ created_in_all ps ≡ counted 0 ps → (q : SsaPart) × (slice_get ps 0 ≡ Some q)
 has_first [] h = let n : suc (length (created_in_all [])) ≡ 0 = ap length h in absurd (omega (arith, n))
 has_first (q ∷ ps) h = (q, refl)
 
-one_of_truth : (n : ℕ) → n ≤ 1 → is_true n ≡ true → n ≡ 1
+pub one_of_truth : (n : ℕ) → n ≤ 1 → is_true n ≡ true → n ≡ 1
 one_of_truth zero h e = absurd (false≢true e)
 one_of_truth (suc zero) h e = refl
 one_of_truth (suc (suc n)) h e = absurd (omega (arith, h))
 
-no_ending : (o : Option FlatEnding) → ((e : FlatEnding) → o ≡ Some e → ⊥) → o ≡ None
+pub no_ending : (o : Option FlatEnding) → ((e : FlatEnding) → o ≡ Some e → ⊥) → o ≡ None
 no_ending None h = refl
 no_ending (Some e) h = absurd (h e refl)
 

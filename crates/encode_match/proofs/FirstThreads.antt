@@ -84,6 +84,16 @@ module _ (p : Checked) (flat : Flat) (f : Ssa) (words : List (List Lit)) (s : Li
       (λ r run us a b. All-cons P (thread_of (thread_at q) run) (threads_of (rest_threads (i + 1) ps) us) (each i q (omega arith) r run a) (go us b))
       (λ e. go) rs w
 
+  -- each run is that of a part that runs
+  runs_from : (P : Run → Type 0) (i : ℕ) (ps : List SsaPart) → AreFrom i ps → ((j : ℕ) (q : SsaPart) → Running j q → (run : Run) → RunsTo (thread_run p) (thread_at q) run → P run) → Told (λ ts rs. All P rs) (rest_threads i ps)
+  runs_from P i [] h each [] w = All-nil P
+  runs_from P i [] h each (r ∷ rs) w = absurd w
+  runs_from P i (q ∷ ps) h each rs w =
+      let go = runs_from P (i + 1) ps (rest_from flat f words s k i q ps h) each in
+      told_more (λ ts rs. All P rs) i q (rest_threads (i + 1) ps) (shown flat f words s k i q (first_from flat f words s k i q ps h))
+      (λ r run us a b. All-cons P run us (each i q r run a) (go us b))
+      (λ e. go) rs w
+
   -- a relation of each part that runs to the later ones
   pairs_from : (R : Thread → Thread → Type 0) (i : ℕ) (ps : List SsaPart) → AreFrom i ps
       → ((j l : ℕ) (a b : SsaPart) → j < l → Running j a → Running l b → (u w : Run) → RunsTo (thread_run p) (thread_at a) u → RunsTo (thread_run p) (thread_at b) w → R (thread_of (thread_at a) u) (thread_of (thread_at b) w))
@@ -140,6 +150,10 @@ module _ (p : Checked) (flat : Flat) (f : Ssa) (words : List (List Lit)) (s : Li
   pub all_threads : (P : Thread → Type 0) → ((j : ℕ) (q : SsaPart) → Running j q → (run : Run) → RunsTo (thread_run p) (thread_at q) run → P (thread_of (thread_at q) run))
       → (rs : List Run) → Whole (rest_threads 0 f.parts) rs → All P (threads_of (rest_threads 0 f.parts) rs)
   all_threads P each rs w = all_from P 0 f.parts from_start (λ j q l. each j q) rs w
+
+  pub all_runs : (P : Run → Type 0) → ((j : ℕ) (q : SsaPart) → Running j q → (run : Run) → RunsTo (thread_run p) (thread_at q) run → P run)
+      → (rs : List Run) → Whole (rest_threads 0 f.parts) rs → All P rs
+  all_runs P each rs w = runs_from P 0 f.parts from_start each rs w
 
   pub all_pairs : (R : Thread → Thread → Type 0)
       → ((j l : ℕ) (a b : SsaPart) → j < l → Running j a → Running l b → (u w : Run) → RunsTo (thread_run p) (thread_at a) u → RunsTo (thread_run p) (thread_at b) w → R (thread_of (thread_at a) u) (thread_of (thread_at b) w))

@@ -27,3 +27,17 @@ pub mod FirstActs
 pub mod FirstReads
 pub mod FirstJoins
 pub mod First
+pub mod SecondInputs
+pub mod SecondThreads
+pub mod SecondLists
+pub mod SecondParts
+pub mod SecondNodes
+pub mod SecondChoice
+pub mod SecondMatch
+pub mod SecondPlayed
+pub mod SecondTaken
+pub mod SecondValues
+pub mod SecondEndings
+pub mod SecondSpells
+pub mod SecondKept
+pub mod Second

@@ -21,7 +21,7 @@ use Rattle.encode_match.proofs.FirstCandidate.{order_events, one_initial}
 -- ---- lists
 
 -- lists that a relation makes from one list, where it makes one thing of each, are one
-zip_once : {A B : Type 0} (R : A → B → Type 0) → ((a : A) (b c : B) → R a b → R a c → b ≡ c) → (xs : List A) (ys zs : List B) → AllZip R xs ys → AllZip R xs zs → ys ≡ zs
+pub zip_once : {A B : Type 0} (R : A → B → Type 0) → ((a : A) (b c : B) → R a b → R a c → b ≡ c) → (xs : List A) (ys zs : List B) → AllZip R xs ys → AllZip R xs zs → ys ≡ zs
 zip_once R f [] [] [] p q = refl
 zip_once R f [] [] (z ∷ zs) p q = absurd q
 zip_once R f [] (y ∷ ys) zs p q = absurd p
@@ -36,7 +36,7 @@ same_candidate c d p q r =
     let h : List (List Event) → Candidate = λ z. record { threads = d.threads; rf = d.rf; co = z } in
     ap f p ∙ (ap g q ∙ ap h r)
 
-same_pair : (p q : RfPair) → p.reader ≡ q.reader → p.source ≡ q.source → p ≡ q
+pub same_pair : (p q : RfPair) → p.reader ≡ q.reader → p.source ≡ q.source → p ≡ q
 same_pair p q e h =
     let f : Event → RfPair = λ z. record { reader = z; source = p.source } in
     let g : Event → RfPair = λ z. record { reader = q.reader; source = z } in

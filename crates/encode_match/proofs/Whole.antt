@@ -6,23 +6,17 @@ use Rattle.axiom_model.specs.Failing.{execution_of}
 use Rattle.axiom_model.specs.Execution.{Execution}
 use Rattle.c_check.specs.declared.checked.Checked.{Checked}
 use Rattle.run_model.specs.Threads.{ProgramFails}
-use Rattle.run_laws.specs.Started.{StartedHandlesAreLow, StartedCreateFew}
-use Rattle.run_laws.specs.Frames.{RunsAreFramed}
-use Rattle.event_graph.specs.Laws.{EventsAreStatic, EventsArePossible, ActionsAreNodes, NodesAct, NodesAreInOrder, BlocksAreSections}
 use Rattle.cnf_problem.specs.Problems.{IsConsistent}
 use Rattle.order_vars.specs.Links.{Link}
 use Rattle.encode_match.specs.declared.Encoded.{Encoded}
 use Rattle.encode_match.specs.Encoding.{IsSpelled, NoAssignmentMeansSafe, SpelledFails}
 use Rattle.encode_match.specs.Matching.{Matches, SameCycles}
 use Rattle.encode_match.specs.Directions.{GraphOf, GraphsHold, MatchOf, AssignmentsMatch, AssignmentOf, FailuresMatch, ChainEncodes}
-use Rattle.encode_match.proofs.StartedParts.{RunsAreNumbered}
-use Rattle.encode_match.proofs.HoldingGraphs.{graphs_hold}
 use Rattle.encode_match.proofs.CycleLaw.{cycles_agree}
-use Rattle.encode_match.proofs.First.{assignments_match}
 use Rattle.encode_match.proofs.SpelledOnce.{spelled_once}
 
 -- cycles, with the links of the chain
-cycles_with : (m : MemoryModel) (x : Encoded) (s : List Bool) (links : List Link) (e : Execution) → GraphOf m x s links → Matches x s links e → SameCycles m x s e
+pub cycles_with : (m : MemoryModel) (x : Encoded) (s : List Bool) (links : List Link) (e : Execution) → GraphOf m x s links → Matches x s links e → SameCycles m x s e
 cycles_with m x s links e g t = cycles_agree m x s e g.graph (subst (λ (l : List Link). Matches x s l e) (sym g.same_links) t)
 
 fails_from : (p : Checked) (m : MemoryModel) (x : Encoded) (s : List Bool) (links : List Link) → GraphOf m x s links → IsConsistent x.problem s → (r : MatchOf p x s links) → ProgramFails p m r.candidate
@@ -53,11 +47,6 @@ encodes graphs first second p m flat x chain = record {
       let a = second p m flat x c chain h in
       spelled_from p m x chain.made.orders.links c h a (graphs p m flat x a.assignment chain a.clauses);
 }
-
--- the same, from the laws of the crates below and the second direction
-pub chain_encodes : StartedHandlesAreLow → StartedCreateFew → RunsAreNumbered → RunsAreFramed → EventsAreStatic → EventsArePossible → ActionsAreNodes → NodesAct → NodesAreInOrder → BlocksAreSections → FailuresMatch → ChainEncodes
-chain_encodes lows few numbered framed static possible nodes act order sections second =
-    encodes (graphs_hold static possible) (assignments_match lows few numbered framed static possible nodes act order sections) second
 
 -- ---- what the layers above use
 

@@ -4,7 +4,7 @@ use Rattle.dg_base.specs.declared.Lit.{Lit}
 use Rattle.axiom_model.specs.declared.MemoryModel.{MemoryModel}
 use Rattle.bv_term.specs.declared.term.TermId.{TermId}
 use Rattle.cnf_problem.specs.Literals.{negated}
-use Rattle.cnf_problem.specs.Formulas.{Formula, true_lit}
+use Rattle.cnf_problem.specs.Formulas.{Formula, IsBuilt, true_lit}
 use Rattle.cnf_problem.specs.declared.problem.AtomKind.TheVariants.{Plain}
 use Rattle.cnf_problem.specs.declared.problem.Atom.{Atom}
 use Rattle.cnf_problem.specs.declared.problem.Edge.{Edge}
@@ -88,6 +88,7 @@ pub record IsMadeOf (m : MemoryModel) (flat : Flat) (x : Encoded) : Type 0 where
   pub words : List (List Lit)
   pub blasted : Formula
   pub blasts : Blasts no_gates blasted form.terms words
+  pub built : IsBuilt blasted
   pub events : x.map.graph.events ≡ events_of form words
   pub bits : x.map.graph.bits ≡ bits_of form words
   pub parts : x.map.parts ≡ map (part_map words) form.parts

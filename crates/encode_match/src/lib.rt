@@ -13,7 +13,7 @@ use axiom_model::MemoryModel;
 use cnf_problem::Problem;
 use dg_base::{List, Lit};
 use event_graph::EventGraph;
-pub use laws::{assignments_match, cycles_agree, encodings_decide};
+pub use laws::{assignments_match, chain_encodes, cycles_agree, encodings_decide, failures_match};
 
 /// A number that an instance takes from outside: it is taken where the guard is true.
 #[derive(Clone, Copy, Drop)]
