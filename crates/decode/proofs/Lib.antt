@@ -1,0 +1,7 @@
+mod Bumping
+mod Handing
+mod Lining
+mod Numbering
+mod Placing
+mod Reading
+mod Whole
