@@ -1,0 +1,17 @@
+pub mod Assigned
+pub mod Begun
+pub mod Come
+pub mod Found
+pub mod Fresh
+pub mod Ground
+pub mod Learning
+pub mod Learnt
+pub mod Levels
+pub mod Models
+pub mod Noted
+pub mod Reasons
+pub mod Restarted
+pub mod Steps
+pub mod Told
+pub mod Undone
+pub mod Watchable
