@@ -1,0 +1,45 @@
+-- What each verdict on a program says.
+use Rattle.std.specs.Prelude.{◌≡◌, ◌≤◌, List}
+use Rattle.axiom_model.specs.declared.Candidate.{Candidate}
+use Rattle.axiom_model.specs.declared.MemoryModel.{MemoryModel}
+use Rattle.axiom_model.specs.Failing.{FailsFirst}
+use Rattle.c_check.specs.declared.checked.Checked.{Checked}
+use Rattle.run_model.specs.Threads.{ProgramFails}
+use Rattle.lemma_log.specs.declared.Entry.{Entry}
+use Rattle.encode_match.specs.declared.Encoded.{Encoded}
+use Rattle.encode_match.specs.Encoding.{IsEncoding}
+use Rattle.verdict_run.specs.declared.decision.Report.{Report}
+use Rattle.verdict_run.specs.Decisions.{IsGood, IsUnknown}
+use Rattle.program_verdict.specs.declared.Effort.{Effort}
+use Rattle.program_verdict.specs.declared.Failure.{Failure}
+use Rattle.program_verdict.specs.declared.ProgramVerdict.{ProgramVerdict}
+use Rattle.program_verdict.specs.declared.ProgramVerdict.TheVariants.{Safe, Unsafe, Unknown}
+
+-- the effort is within the limits of a search
+pub record IsAffordable (e : Effort) : Type 0 where
+  pub some_worker : 1 ≤ e.workers
+  pub few_workers : e.workers ≤ 16
+  pub some_budget : 1 ≤ e.budget
+  pub low_budget : e.budget ≤ 1000000
+  pub few_words : e.share_words ≤ 1048576
+
+-- the candidate is a failing execution of the program, and this is its failing thread
+pub record IsFailure (p : Checked) (m : MemoryModel) (f : Failure) : Type 0 where
+  pub fails : ProgramFails p m f.candidate
+  pub first : FailsFirst f.candidate fails.allowed.threads f.handle f.place f.bound
+
+-- A search of this effort over the program's problem ended without a verdict: the core reached a state in which none stands and each
+-- worker is spent; its entries are a good log, and its numbers are the reports.
+pub record IsUndecided (p : Checked) (m : MemoryModel) (e : Effort) (reports : List Report) : Type 0 where
+  pub encoded : Encoded
+  pub encoding : IsEncoding p encoded
+  pub same_model : encoded.model ≡ m
+  pub log : List Entry
+  pub good : IsGood encoded.problem log
+  pub unknown : IsUnknown encoded.problem e.workers e.budget log reports
+
+-- what each verdict says of a program under a model
+abbrev pub IsVerdictOf : Checked → MemoryModel → Effort → ProgramVerdict → Type 0
+IsVerdictOf p m e Safe = (c : Candidate) → ¬ ProgramFails p m c
+IsVerdictOf p m e (Unsafe f) = IsFailure p m f
+IsVerdictOf p m e (Unknown reports) = IsUndecided p m e reports
