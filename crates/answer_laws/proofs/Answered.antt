@@ -17,7 +17,7 @@ module _ (not_neither : NotNeither) (some_replay : SomeReplayIsAllowed) (some_ve
   of_texts s files _ bound (one program job) none =
       let text = contents files program in
       not_neither s.bound s.full text bound
-      (λ p acc. some_verdict s.bound s.full text s.model p acc (λ a v. none a (verified text p a job acc v)))
+      (λ p acc. some_verdict s.bound s.full text s.model s.effort p acc (λ a v. none a (verified text p a job acc v)))
       (λ e r. none (Refused e) (refused text [] e r))
   of_texts s files _ bound (two program witness job) none =
       let text = contents files program in

@@ -10,6 +10,4 @@ pub mod Sorting
 pub mod Written
 pub mod Settings
 pub mod Verdicts
-pub mod Forms
-pub mod Decided
 pub mod Answered

@@ -20,6 +20,7 @@ use Rattle.exec_check.specs.Broken.{IsFirstBroken}
 use Rattle.line_text.specs.Lines.{Refuses}
 use Rattle.witness_text.specs.Spelling.{Spells}
 use Rattle.c_program.specs.Accepting.{IsAccepted}
+use Rattle.program_verdict.specs.declared.Effort.{Effort}
 use Rattle.dg_top.specs.Answers.{Allowed, Answer, IsReplay, IsVerdict}
 use Rattle.dg_top.specs.Settings.{Word}
 
@@ -45,7 +46,8 @@ SomeReplayIsAllowed = (m : MemoryModel) (p : Checked) (witness : List ℕ) → I
 
 -- of each accepted text there is a verdict
 abbrev pub SomeVerdictIsAllowed : Type 0
-SomeVerdictIsAllowed = (bound : ℕ) (full : Bool) (text : List ℕ) (m : MemoryModel) (p : Checked) → IsAccepted bound full text p → ((a : Answer) → IsVerdict m p a → ⊥) → ⊥
+SomeVerdictIsAllowed =
+    (bound : ℕ) (full : Bool) (text : List ℕ) (m : MemoryModel) (effort : Effort) (p : Checked) → IsAccepted bound full text p → ((a : Answer) → IsVerdict m effort p a → ⊥) → ⊥
 
 -- some answer is always allowed
 abbrev pub SomeAnswerIsAllowed : Type 0

@@ -53,7 +53,9 @@ pub fn some_replay_is_allowed()
 /// Of each accepted text, under each model, there is a verdict.
 pub fn some_verdict_is_allowed()
     ensures { SomeVerdictIsAllowed }
-{}
+{
+    failing_is_spelled();
+}
 
 /// For all words and files some answer is allowed.
 pub fn some_answer_is_allowed()

@@ -5,7 +5,7 @@
 //! form is this: it is impossible that each case is impossible.
 //!
 //! Of `replay`: each text spells a candidate or is refused at a line, and a candidate of words that breaks no condition first
-//! is a failing execution. Of `verify`: a program that is decided fails only where a failing execution of it has a text. And of
+//! is a failing execution. Of `verify`: a program fails only where a failing execution of it has a text. And of
 //! every accepted text: an execution that a model allows has a text, with its pairs in the order of their readers, if its runs
 //! have at most 2^32 actions; all its other numbers have 32 bits.
 #![tactic(auto)]

@@ -19,8 +19,10 @@ use Rattle.exec_check.proofs.Excluding.{runs_are}
 use Rattle.c_check.specs.PlainNames.{cell_names}
 use Rattle.witness_text.specs.Spelling.{OneCandidate, Spells}
 use Rattle.c_program.specs.Accepting.{IsAccepted, IsRefused, NamesArePlain, NotBoth, OneChecked}
+use Rattle.verdict_run.specs.declared.decision.Report.{Report}
+use Rattle.program_verdict.specs.declared.Effort.{Effort}
 use Rattle.dg_top.specs.declared.settings.Settings.{Settings}
-use Rattle.dg_top.specs.Answers.{Answer, BadWitness, Failing, IsAnswer, IsReplay, IsVerdict, NotYet, Refused, Rejected, Safe, Unsafe, bad_witness, failing, not_yet, refused, rejected, replayed, safe, unsafe, verified}
+use Rattle.dg_top.specs.Answers.{Answer, BadWitness, Failing, IsAnswer, IsReplay, IsVerdict, Refused, Rejected, Safe, Unknown, Unsafe, bad_witness, failing, refused, rejected, replayed, safe, unknown, unsafe, verified}
 use Rattle.dg_top.specs.Laws.{FailingIsAlone}
 
 -- ---- the first failing thread
@@ -70,8 +72,8 @@ module _ (h : ℕ) (at : Place) (a : Bool) where
   not_refused : (r : Refusal) → Refused r ≡ Failing h at a → ⊥
   not_refused r e = cc
 
-  not_open : NotYet ≡ Failing h at a → ⊥
-  not_open e = cc
+  not_open : (reports : List Report) → Unknown reports ≡ Failing h at a → ⊥
+  not_open reports e = cc
 
   not_safe : Safe ≡ Failing h at a → ⊥
   not_safe e = cc
@@ -109,10 +111,10 @@ shown m p w h at way _ e (failing c k bt b s x f) =
     }
 shown m p w h at way _ e (rejected c r s b n) = absurd (not_rejected h at way p r e)
 
-no_verdict : (m : MemoryModel) (p : Checked) (h : ℕ) (at : Place) (way : Bool) (a : Answer) → a ≡ Failing h at way → IsVerdict m p a → ⊥
-no_verdict m p h at way _ e (not_yet d) = not_open h at way e
-no_verdict m p h at way _ e (safe d s) = not_safe h at way e
-no_verdict m p h at way _ e (unsafe c w k bt b d s x f) = not_unsafe h at way w k bt b e
+no_verdict : (m : MemoryModel) (effort : Effort) (p : Checked) (h : ℕ) (at : Place) (way : Bool) (a : Answer) → a ≡ Failing h at way → IsVerdict m effort p a → ⊥
+no_verdict m effort p h at way _ e (safe s) = not_safe h at way e
+no_verdict m effort p h at way _ e (unsafe c w k bt b s x f) = not_unsafe h at way w k bt b e
+no_verdict m effort p h at way _ e (unknown reports u) = not_open h at way reports e
 
 -- the texts that are answered with a failing thread
 record Given (s : Settings) (texts : List (List ℕ)) (h : ℕ) (at : Place) (way : Bool) : Type 0 where
@@ -125,7 +127,7 @@ record Given (s : Settings) (texts : List (List ℕ)) (h : ℕ) (at : Place) (wa
 
 given : (s : Settings) (texts : List (List ℕ)) (h : ℕ) (at : Place) (way : Bool) (a : Answer) → a ≡ Failing h at way → IsAnswer s texts a → Given s texts h at way
 given s _ h at way _ e (refused text others r d) = absurd (not_refused h at way r e)
-given s _ h at way a e (verified text p b j acc v) = absurd (no_verdict s.model p h at way b e v)
+given s _ h at way a e (verified text p b j acc v) = absurd (no_verdict s.model s.effort p h at way b e v)
 given s _ h at way a e (replayed text witness p b j acc v) =
     record { text = text; witness = witness; program = p; texts_are = refl; accepted = acc; shown = shown s.model p witness h at way b e v }
 

@@ -4,17 +4,18 @@ use Rattle.dg_base.specs.declared.outside.Trouble.{Trouble}
 use Rattle.dg_base.proofs.Lists.{not_none}
 use Rattle.axiom_model.specs.declared.MemoryModel.{MemoryModel}
 use Rattle.c_check.specs.declared.checked.Checked.{Checked}
+use Rattle.program_verdict.specs.declared.Effort.{Effort}
 use Rattle.dg_top.specs.declared.reply.Reply.{Reply}
 use Rattle.dg_top.specs.declared.settings.Settings.{Settings}
-use Rattle.dg_top.specs.Answers.{Answer, BadWords, IsAnswer, IsReplay, IsVerdict, LongFile, bad_witness, failing, not_yet, refused, rejected, replayed, safe, status_of, unsafe, verified}
+use Rattle.dg_top.specs.Answers.{Answer, BadWords, IsAnswer, IsReplay, IsVerdict, LongFile, bad_witness, failing, refused, rejected, replayed, safe, status_of, unknown, unsafe, verified}
 use Rattle.dg_top.specs.Replies.{IsOneOf, Spells}
 use Rattle.dg_top.specs.Settings.{settings_of}
 
 -- a verdict, or what is said of a witness, is never told with status 3
-verdict_status : (m : MemoryModel) (p : Checked) (a : Answer) → IsVerdict m p a → status_of a ≢ 3
-verdict_status m p _ (not_yet d) = λ e. cc
-verdict_status m p _ (safe d n) = λ e. cc
-verdict_status m p _ (unsafe c w h at b d s x f) = λ e. cc
+verdict_status : (m : MemoryModel) (e : Effort) (p : Checked) (a : Answer) → IsVerdict m e p a → status_of a ≢ 3
+verdict_status m e p _ (safe n) = λ e. cc
+verdict_status m e p _ (unsafe c w h at b s x f) = λ e. cc
+verdict_status m e p _ (unknown reports u) = λ e. cc
 
 replay_status : (m : MemoryModel) (p : Checked) (w : List ℕ) (a : Answer) → IsReplay m p w a → status_of a ≢ 3
 replay_status m p w _ (bad_witness line r) = λ e. cc
@@ -23,7 +24,7 @@ replay_status m p w _ (rejected c e s b n) = λ e. cc
 
 answer_status : (s : Settings) (texts : List (List ℕ)) (a : Answer) → IsAnswer s texts a → status_of a ≢ 3
 answer_status s _ _ (refused text others e r) = λ e. cc
-answer_status s _ a (verified text p b j acc v) = verdict_status s.model p b v
+answer_status s _ a (verified text p b j acc v) = verdict_status s.model s.effort p b v
 answer_status s _ a (replayed text witness p b j acc v) = replay_status s.model p witness b v
 
 -- a reply with an answer of a job's texts

@@ -12,8 +12,9 @@ use Rattle.c_check.specs.PlainNames.{cell_names}
 use Rattle.run_model.specs.Threads.{ProgramFails}
 use Rattle.witness_text.specs.Spelling.{Spells}
 use Rattle.c_program.specs.Accepting.{IsAccepted, OneChecked}
+use Rattle.program_verdict.specs.declared.Effort.{Effort}
 use Rattle.dg_top.specs.declared.settings.Settings.{Settings}
-use Rattle.dg_top.specs.Answers.{Allowed, Answer, BadWitness, BadWords, Failing, IsAnswer, IsAnswerOf, IsReplay, IsVerdict, LongFile, NotYet, Refused, Rejected, Safe, Unsafe, answer, bad_witness, bad_words, failing, job_done, long_file, not_yet, refused, rejected, replayed, safe, unsafe, verified}
+use Rattle.dg_top.specs.Answers.{Allowed, Answer, BadWitness, BadWords, Failing, IsAnswer, IsAnswerOf, IsReplay, IsVerdict, LongFile, Refused, Rejected, Safe, Unknown, Unsafe, answer, bad_witness, bad_words, failing, job_done, long_file, refused, rejected, replayed, safe, unknown, unsafe, verified}
 use Rattle.dg_top.specs.Laws.{SafeExcludesUnsafe, UnsafeIsReplayed}
 use Rattle.dg_top.specs.Settings.{files_of, settings_of}
 
@@ -42,10 +43,10 @@ record IsSafe (s : Settings) (texts : List (List ℕ)) : Type 0 where
   accepted : IsAccepted s.bound s.full text program
   none : (c : Candidate) → ProgramFails program s.model c → ⊥
 
-none_fails : (m : MemoryModel) (p : Checked) (a : Answer) → a ≡ Safe → IsVerdict m p a → (c : Candidate) → ProgramFails p m c → ⊥
-none_fails m p _ e (not_yet d) = absurd (let no : NotYet ≡ Safe = e in cc)
-none_fails m p _ e (safe d n) = n
-none_fails m p _ e (unsafe c w h at b d s x f) = absurd (let no : Unsafe w h at b ≡ Safe = e in cc)
+none_fails : (m : MemoryModel) (effort : Effort) (p : Checked) (a : Answer) → a ≡ Safe → IsVerdict m effort p a → (c : Candidate) → ProgramFails p m c → ⊥
+none_fails m effort p _ e (safe n) = n
+none_fails m effort p _ e (unsafe c w h at b s x f) = absurd (let no : Unsafe w h at b ≡ Safe = e in cc)
+none_fails m effort p _ e (unknown reports u) = absurd (let no : Unknown reports ≡ Safe = e in cc)
 
 no_safe_replay : (m : MemoryModel) (p : Checked) (w : List ℕ) (a : Answer) → a ≡ Safe → IsReplay m p w a → ⊥
 no_safe_replay m p w _ e (bad_witness line r) = let no : BadWitness line ≡ Safe = e in cc
@@ -54,7 +55,7 @@ no_safe_replay m p w _ e (rejected c r s b n) = let no : Rejected p r ≡ Safe =
 
 is_safe : (s : Settings) (texts : List (List ℕ)) (a : Answer) → a ≡ Safe → IsAnswer s texts a → IsSafe s texts
 is_safe s _ _ e (refused text others r d) = absurd (let no : Refused r ≡ Safe = e in cc)
-is_safe s _ a e (verified text p b j acc v) = record { text = text; program = p; texts_are = refl; accepted = acc; none = none_fails s.model p b e v }
+is_safe s _ a e (verified text p b j acc v) = record { text = text; program = p; texts_are = refl; accepted = acc; none = none_fails s.model s.effort p b e v }
 is_safe s _ a e (replayed text witness p b j acc v) = absurd (no_safe_replay s.model p witness b e v)
 
 -- ---- a text that is answered with Unsafe
@@ -73,10 +74,10 @@ record IsUnsafe (s : Settings) (texts : List (List ℕ)) (w : List ℕ) (h : ℕ
   shows : Shows s.model program w h at way
 
 module _ (w : List ℕ) (h : ℕ) (at : Place) (way : Bool) where
-  shows_it : (m : MemoryModel) (p : Checked) (a : Answer) → a ≡ Unsafe w h at way → IsVerdict m p a → Shows m p w h at way
-  shows_it m p _ e (not_yet d) = absurd (let no : NotYet ≡ Unsafe w h at way = e in cc)
-  shows_it m p _ e (safe d n) = absurd (let no : Safe ≡ Unsafe w h at way = e in cc)
-  shows_it m p _ e (unsafe c v k bt b d s x f) =
+  shows_it : (m : MemoryModel) (effort : Effort) (p : Checked) (a : Answer) → a ≡ Unsafe w h at way → IsVerdict m effort p a → Shows m p w h at way
+  shows_it m effort p _ e (safe n) = absurd (let no : Safe ≡ Unsafe w h at way = e in cc)
+  shows_it m effort p _ e (unknown reports u) = absurd (let no : Unknown reports ≡ Unsafe w h at way = e in cc)
+  shows_it m effort p _ e (unsafe c v k bt b s x f) =
       let told : v ≡ w = cc in
       let handle : k ≡ h = cc in
       let place : bt ≡ at = cc in
@@ -95,7 +96,7 @@ module _ (w : List ℕ) (h : ℕ) (at : Place) (way : Bool) where
 
   is_unsafe : (s : Settings) (texts : List (List ℕ)) (a : Answer) → a ≡ Unsafe w h at way → IsAnswer s texts a → IsUnsafe s texts w h at way
   is_unsafe s _ _ e (refused text others r d) = absurd (let no : Refused r ≡ Unsafe w h at way = e in cc)
-  is_unsafe s _ a e (verified text p b j acc v) = record { text = text; program = p; texts_are = refl; accepted = acc; shows = shows_it s.model p b e v }
+  is_unsafe s _ a e (verified text p b j acc v) = record { text = text; program = p; texts_are = refl; accepted = acc; shows = shows_it s.model s.effort p b e v }
   is_unsafe s _ a e (replayed text v p b j acc x) = absurd (no_unsafe_replay s.model p v b e x)
 
 -- ---- the laws

@@ -6,3 +6,4 @@ mod Files
 mod Verdicts
 mod Alone
 mod Excludes
+mod Spellable

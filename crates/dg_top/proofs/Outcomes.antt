@@ -4,7 +4,7 @@ use Rattle.dg_base.specs.declared.outside.FileEntry.{FileEntry}
 use Rattle.dg_base.specs.declared.outside.Trouble.TheVariants.{Failed}
 use Rattle.dg_base.specs.Outside.{Changes, Prints, Told, Unchanged}
 use Rattle.dg_top.specs.declared.reply.Reply.{Reply}
-use Rattle.dg_top.specs.Answers.{Allowed, Answer, Appended, BadWitness, BadWords, Failing, IsStatus, LongFile, NotYet, Outcome, Refused, Rejected, Safe, Unsafe, answered, no_memory, status_of, text_of, unfetched, unprinted}
+use Rattle.dg_top.specs.Answers.{Allowed, Answer, Appended, BadWitness, BadWords, Failing, IsStatus, LongFile, Outcome, Refused, Rejected, Safe, Unknown, Unsafe, answered, no_memory, status_of, text_of, unfetched, unprinted}
 use Rattle.dg_top.specs.Replies.{IsOneOf, Replies, Spells}
 
 pub told_map : {A : Type 0} (P Q : A → Type 0) (o : Option A) → ((x : A) → P x → Q x) → Told P o → Told Q o
@@ -36,7 +36,7 @@ status_small (Failing h at b) = omega arith
 status_small (Rejected p e) = omega arith
 status_small BadWords = omega arith
 status_small (Refused e) = omega arith
-status_small NotYet = omega arith
+status_small (Unknown reports) = omega arith
 status_small (BadWitness line) = omega arith
 status_small (LongFile name) = omega arith
 
@@ -47,7 +47,7 @@ status_known (Failing h at b) = refl
 status_known (Rejected p e) = refl
 status_known BadWords = refl
 status_known (Refused e) = refl
-status_known NotYet = refl
+status_known (Unknown reports) = refl
 status_known (BadWitness line) = refl
 status_known (LongFile name) = refl
 

@@ -1,5 +1,5 @@
 -- The answers of the top call: when each comes, its status, and what it prints.
-use Rattle.std.specs.Prelude.{◌≡◌, ◌≢◌, ℕ, nat_lt, Bool, true, false, List, [], ◌∷◌, ◌++◌, Option, Some, None, if◌then◌else◌, ◌==◌, IsTrue, codes, decimal, length, map, take}
+use Rattle.std.specs.Prelude.{◌≡◌, ◌≢◌, ℕ, nat_lt, Bool, true, false, List, [], ◌∷◌, ◌++◌, Option, Some, None, if◌then◌else◌, ◌==◌, IsTrue, codes, decimal, flat_map, length, map, take}
 use Rattle.std.specs.List.{list_any}
 use Rattle.dg_base.specs.declared.Place.{Place}
 use Rattle.dg_base.specs.declared.refusal.Refusal.{Refusal}
@@ -8,18 +8,20 @@ use Rattle.dg_base.specs.declared.outside.TheConstants.{LONGEST_FILE}
 use Rattle.dg_base.specs.Outside.{Changes, Unchanged, contents}
 use Rattle.axiom_model.specs.declared.Candidate.{Candidate}
 use Rattle.axiom_model.specs.declared.MemoryModel.{MemoryModel}
-use Rattle.axiom_model.specs.declared.MemoryModel.TheVariants.{Sc}
 use Rattle.axiom_model.specs.Failing.{FailsFirst}
 use Rattle.c_check.specs.declared.checked.Checked.{Checked}
 use Rattle.c_check.specs.PlainNames.{cell_names}
-use Rattle.first_form.specs.Whole.{form_of}
 use Rattle.run_model.specs.Threads.{ProgramFails}
 use Rattle.exec_check.specs.declared.Reject.{Reject}
 use Rattle.exec_check.specs.declared.Reject.TheVariants as reject
 use Rattle.exec_check.specs.Broken.{IsFirstBroken}
 use Rattle.line_text.specs.Lines.{Refuses}
+use Rattle.line_text.specs.Words.{shown}
 use Rattle.witness_text.specs.Spelling.{Spells}
 use Rattle.c_program.specs.Accepting.{IsAccepted, IsRefused}
+use Rattle.verdict_run.specs.declared.decision.Report.{Report}
+use Rattle.program_verdict.specs.declared.Effort.{Effort}
+use Rattle.program_verdict.specs.Verdicts.{IsUndecided}
 use Rattle.dg_top.specs.declared.settings.Job.TheVariants.{Verify, Replay}
 use Rattle.dg_top.specs.declared.settings.Settings.{Settings}
 use Rattle.dg_top.specs.RefusalText.{place_text, refusal_text}
@@ -32,6 +34,8 @@ pub data Answer : Type 0 where
   Safe : Answer
   -- this text is a witness of a failing execution; the handle and the place of its failing thread, and whether it spends a bound there
   Unsafe : List ℕ → ℕ → Place → Bool → Answer
+  -- the search ended without a verdict; the numbers of its workers
+  Unknown : List Report → Answer
   -- the witness that was given is a failing execution; the same of its failing thread
   Failing : ℕ → Place → Bool → Answer
   -- the witness is no failing execution of this program
@@ -40,23 +44,17 @@ pub data Answer : Type 0 where
   BadWords : Answer
   -- the program's text is refused
   Refused : Refusal → Answer
-  -- the text is accepted, and its program is not decided yet
-  NotYet : Answer
   -- the witness's text goes wrong at this line
   BadWitness : ℕ → Answer
   -- the file of this name is too long
   LongFile : Word → Answer
 
--- the programs that are decided: those of the first form, under sequential consistency
-abbrev pub IsDecided : MemoryModel → Checked → Type 0
-IsDecided m p = (m ≡ Sc) × (form_of p.program ≢ None)
-
--- what is answered of a program under a model
-pub data IsVerdict (m : MemoryModel) (p : Checked) : Answer → Type 0 where
-  not_yet : (IsDecided m p → ⊥) → IsVerdict m p NotYet
-  safe : IsDecided m p → ((c : Candidate) → ProgramFails p m c → ⊥) → IsVerdict m p Safe
-  unsafe : (c : Candidate) (witness : List ℕ) (handle : ℕ) (at : Place) (bound : Bool) → IsDecided m p → Spells p.functions (cell_names p.cells) c witness
-      → (x : ProgramFails p m c) → FailsFirst c x.allowed.threads handle at bound → IsVerdict m p (Unsafe witness handle at bound)
+-- what is answered of a program under a model, where so much is searched
+pub data IsVerdict (m : MemoryModel) (effort : Effort) (p : Checked) : Answer → Type 0 where
+  safe : ((c : Candidate) → ProgramFails p m c → ⊥) → IsVerdict m effort p Safe
+  unsafe : (c : Candidate) (witness : List ℕ) (handle : ℕ) (at : Place) (bound : Bool) → Spells p.functions (cell_names p.cells) c witness
+      → (x : ProgramFails p m c) → FailsFirst c x.allowed.threads handle at bound → IsVerdict m effort p (Unsafe witness handle at bound)
+  unknown : (reports : List Report) → IsUndecided p m effort reports → IsVerdict m effort p (Unknown reports)
 
 -- what is answered of a witness's text for a program under a model
 pub data IsReplay (m : MemoryModel) (p : Checked) (witness : List ℕ) : Answer → Type 0 where
@@ -69,7 +67,7 @@ pub data IsReplay (m : MemoryModel) (p : Checked) (witness : List ℕ) : Answer 
 -- what is answered of the texts of a job's files; a refusal of the program comes before all that is said of it
 pub data IsAnswer (s : Settings) : List (List ℕ) → Answer → Type 0 where
   refused : (text : List ℕ) (others : List (List ℕ)) (e : Refusal) → IsRefused s.bound text e → IsAnswer s (text ∷ others) (Refused e)
-  verified : (text : List ℕ) (p : Checked) (a : Answer) → s.job ≡ Verify → IsAccepted s.bound s.full text p → IsVerdict s.model p a
+  verified : (text : List ℕ) (p : Checked) (a : Answer) → s.job ≡ Verify → IsAccepted s.bound s.full text p → IsVerdict s.model s.effort p a
       → IsAnswer s (text ∷ []) a
   replayed : (text witness : List ℕ) (p : Checked) (a : Answer) → s.job ≡ Replay → IsAccepted s.bound s.full text p → IsReplay s.model p witness a
       → IsAnswer s (text ∷ witness ∷ []) a
@@ -92,11 +90,11 @@ pub data Allowed (words : List Word) (files : List FileEntry) : Answer → Type 
 abbrev pub status_of : Answer → ℕ
 status_of Safe = 0
 status_of (Unsafe witness handle at bound) = 1
+status_of (Unknown reports) = 2
 status_of (Failing handle at bound) = 0
 status_of (Rejected p e) = 1
 status_of BadWords = 3
 status_of (Refused e) = 4
-status_of NotYet = 4
 status_of (BadWitness line) = 4
 status_of (LongFile name) = 4
 
@@ -111,14 +109,18 @@ bound_text false = []
 abbrev pub failing_line : List ℕ → ℕ → Place → Bool → List ℕ
 failing_line word handle at bound = word ++ bound_text bound ++ codes " thread " ++ decimal handle ++ codes " at " ++ place_text at ++ line_feed
 
+-- `worker I entries N read R0 R1 ..`
+abbrev pub report_line : Report → List ℕ
+report_line r = codes "worker " ++ decimal r.worker ++ codes " entries " ++ decimal r.entries ++ codes " read" ++ shown decimal r.reads ++ line_feed
+
 abbrev pub text_of : Answer → List ℕ
 text_of Safe = codes "SAFE" ++ line_feed
 text_of (Unsafe witness handle at bound) = failing_line (codes "UNSAFE") handle at bound ++ witness
+text_of (Unknown reports) = codes "UNKNOWN" ++ line_feed ++ flat_map report_line reports
 text_of (Failing handle at bound) = failing_line (codes "FAILING") handle at bound
 text_of (Rejected p e) = codes "REFUSED " ++ reject_text (cell_names p.cells) e ++ line_feed
 text_of BadWords = codes "words Form" ++ line_feed
 text_of (Refused e) = codes "refused " ++ refusal_text e ++ line_feed
-text_of NotYet = codes "refused E0 NotYet" ++ line_feed
 text_of (BadWitness line) = codes "refused W1 WitnessText " ++ decimal line ++ line_feed
 text_of (LongFile name) = codes "refused Long " ++ name ++ line_feed
 
@@ -136,7 +138,7 @@ pub data Outcome (words : List Word) (files : List FileEntry) (before now : Opti
 
 -- the statuses there are
 abbrev pub statuses : List ℕ
-statuses = 0 ∷ 1 ∷ 3 ∷ 4 ∷ 5 ∷ 6 ∷ 7 ∷ []
+statuses = 0 ∷ 1 ∷ 2 ∷ 3 ∷ 4 ∷ 5 ∷ 6 ∷ 7 ∷ []
 
 abbrev pub IsStatus : ℕ → Type 0
 IsStatus status = IsTrue (list_any (λ s. s == status) statuses)

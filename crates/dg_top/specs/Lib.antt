@@ -4,3 +4,4 @@ pub mod RejectText
 pub mod Answers
 pub mod Replies
 pub mod Laws
+pub mod Pairs

@@ -3,6 +3,7 @@ ghost use Rattle.std.specs.Prelude.{◌≡◌, ◌≢◌, ◌↔◌, ◌⊎◌, 
 ghost use Rattle.dg_base.specs.declared.outside.Operation.TheVariants.{Fetch, Print};
 ghost use Rattle.dg_base.specs.declared.outside.Trouble.TheVariants.{Failed, Long};
 ghost use Rattle.dg_base.specs.Outside.{IsFault, Told, Unchanged};
+ghost use Rattle.program_verdict.specs.Verdicts.{IsAffordable};
 ghost use Rattle.dg_top.specs.declared.settings.Job.TheVariants.{Verify, Replay};
 ghost use Rattle.dg_top.specs.Answers.{Allowed, IsAnswerOf, IsStatus, Outcome};
 ghost use Rattle.dg_top.specs.Replies.{FetchFails, IsFetched, Replies, files_named};
@@ -35,14 +36,17 @@ fn fetched<D: Desk>(alloc: Global, desk: &mut D, name: &str) -> Result<Option<By
 }
 
 // `verify` on a file.
-fn verify_file<D: Desk>(
+fn verify_file<R: Threads + Sync, D: Desk, G: Gate + Sync>(
+    rt: &R,
     alloc: Global,
     settings: &Settings,
     name: &str,
     desk: &mut D,
+    gate: &G,
 ) -> Result<Reply, Trouble>
     requires job { settings.now.job ≡ Verify }
     requires bound { (1 ≤ settings.now.bound) × (settings.now.bound ≤ 64) }
+    requires effort { IsAffordable settings.now.effort }
     ensures replies { IfOk result (Replies (IsAnswerOf settings.now (name.now ∷ [])) (D.files desk.old)) }
     ensures status { IfOk result (λ r. r.status ≢ 3) }
     ensures files { D.files desk.new ≡ D.files desk.old }
@@ -54,7 +58,7 @@ fn verify_file<D: Desk>(
     let Some(text) = fetched(alloc, desk, name)? else {
         return Ok(long_file(alloc, name)?);
     };
-    Ok(verify(alloc, settings, text.as_slice())?)
+    Ok(verify(rt, alloc, settings, text.as_slice(), gate)?)
 }
 
 // `replay` on two files; the witness is read behind the program.
@@ -86,7 +90,13 @@ fn replay_files<D: Desk>(
 }
 
 // The answer, before it is printed.
-fn answer<D: Desk>(alloc: Global, words: &Words, desk: &mut D) -> Result<Reply, Trouble>
+fn answer<R: Threads + Sync, D: Desk, G: Gate + Sync>(
+    rt: &R,
+    alloc: Global,
+    words: &Words,
+    desk: &mut D,
+    gate: &G,
+) -> Result<Reply, Trouble>
     ensures replies { IfOk result (Replies (Allowed words.now) (D.files desk.old)) }
     ensures status { IfOk result (λ r. (r.status ≡ 3) ↔ (read.settings_of words.now ≡ None)) }
     ensures failed { result ≡ Err Failed → read.settings_of words.now ≢ None }
@@ -100,7 +110,7 @@ fn answer<D: Desk>(alloc: Global, words: &Words, desk: &mut D) -> Result<Reply, 
         return Ok(bad_words(alloc)?);
     };
     match settings.job {
-        Job::Verify => verify_file(alloc, &settings, words.word(2), desk),
+        Job::Verify => verify_file(rt, alloc, &settings, words.word(2), desk, gate),
         Job::Replay => replay_files(alloc, &settings, words.word(2), words.word(3), desk),
     }
 }
@@ -108,11 +118,11 @@ fn answer<D: Desk>(alloc: Global, words: &Words, desk: &mut D) -> Result<Reply, 
 /// Does all that the shipped program does: reads the words, fetches the files, answers, prints the
 /// answer. The first word is the program's name. The answer is the status of the process.
 pub fn run<R: Threads + Sync, D: Desk, G: Gate + Sync>(
-    _rt: &R,
+    rt: &R,
     alloc: Global,
     words: &Words,
     desk: &mut D,
-    _gate: &G,
+    gate: &G,
 ) -> u8
     ensures outcome { Told (λ files. Outcome words.now files (D.printed desk.old) (D.printed desk.new) result) (D.files desk.old) }
     ensures files { D.files desk.new ≡ D.files desk.old }
@@ -124,7 +134,7 @@ pub fn run<R: Threads + Sync, D: Desk, G: Gate + Sync>(
     ensures status_3 { read.settings_of words.now ≡ None → (result ≡ 3) ⊎ (result ≡ 6) ⊎ (result ≡ 7) }
     ensures known { IsStatus result }
 {
-    match answer(alloc, words, desk) {
+    match answer(rt, alloc, words, desk, gate) {
         Ok(reply) => match desk.print(reply.text.as_slice()) {
             Ok(()) => reply.status,
             Err(Trouble::Failed) => 6,

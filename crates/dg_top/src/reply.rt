@@ -1,19 +1,20 @@
 // The answers as status and text.
 ghost use Rattle.std.specs.Prelude.{◌≡◌, ◌≢◌, ◌↔◌, IfOk, IsTrue};
-ghost use Rattle.dg_top.specs.Answers.{BadWitness, BadWords, Failing, LongFile, NotYet, Refused, Rejected, Safe};
+ghost use Rattle.dg_top.specs.Answers.{BadWitness, BadWords, Failing, LongFile, Refused, Rejected, Safe, Unknown};
 ghost use Rattle.dg_top.specs.Replies.{IsUnsafe, Spells};
 ghost use Rattle.c_check.specs.PlainNames.{cell_names};
 ghost use Rattle.witness_text.specs.Spelling.{IsSpellable};
 
 use crate::refusal_text::put_refusal;
 use crate::reject_text::put_reject;
-use crate::text::put_failing_line;
+use crate::text::{put_failing_line, put_reports};
 use axiom_model::Candidate;
 use c_check::Checked;
 use dg_base::{OutOfMemory, Place, Refusal};
 use exec_check::Reject;
 use line_text::{put, put_number};
 use std::alloc::Global;
+use verdict_run::Report;
 use witness_text::print_witness;
 
 /// An answer: the status of the process, and the bytes that are printed.
@@ -70,14 +71,6 @@ pub fn refuse(alloc: Global, refusal: &Refusal) -> Result<Reply, OutOfMemory>
     refused(alloc, refusal)
 }
 
-/// The program is not decided yet.
-pub fn not_yet(alloc: Global) -> Result<Reply, OutOfMemory>
-    ensures { IfOk result (Spells NotYet) }
-{
-    let text = Vec::from_slice(alloc, b"refused E0 NotYet\n")?;
-    Ok(Reply { status: 4, text })
-}
-
 /// No execution fails.
 pub fn safe(alloc: Global) -> Result<Reply, OutOfMemory>
     ensures { IfOk result (Spells Safe) }
@@ -103,6 +96,15 @@ pub fn unsafe_at(
     put_failing_line(&mut text, b"UNSAFE", handle, place, bound)?;
     put(&mut text, witness.as_slice())?;
     Ok(Reply { status: 1, text })
+}
+
+/// Every worker is spent, and no verdict stands.
+pub fn unknown(alloc: Global, reports: &[Report]) -> Result<Reply, OutOfMemory>
+    ensures { IfOk result (Spells (Unknown reports.now)) }
+{
+    let mut text = Vec::from_slice(alloc, b"UNKNOWN\n")?;
+    put_reports(&mut text, reports)?;
+    Ok(Reply { status: 2, text })
 }
 
 /// The witness is a failing execution.

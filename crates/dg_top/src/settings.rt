@@ -1,10 +1,13 @@
 // What the words of the command line ask for.
 ghost use Rattle.std.specs.Prelude.{◌≡◌, ◌≤◌, ◌+◌, None, IfSome, IsTrue, drop, length};
+ghost use Rattle.program_verdict.specs.Verdicts.{IsAffordable};
 ghost use Rattle.dg_top.specs.Settings as read;
-ghost use Rattle.dg_top.specs.Settings.{IsWithin, file_count};
+ghost use Rattle.dg_top.specs.Settings.{AreWithin, IsWithin, file_count};
 
 use axiom_model::MemoryModel;
 use dg_base::Words;
+use line_text::number;
+use program_verdict::Effort;
 
 /// What is done.
 #[derive(Debug, Clone, Copy, PartialEq, Eq, Drop)]
@@ -24,6 +27,12 @@ pub struct Options {
     pub bound: Option<u32>,
     /// `--full`: a loop that uses up its bound fails.
     pub full: bool,
+    /// `--workers N`: how many workers search, from 1 to 16.
+    pub workers: Option<u32>,
+    /// `--budget N`: how many lemmas each worker may add, from 1 to 1000000.
+    pub budget: Option<u32>,
+    /// `--share N`: how many words of 32 bits each worker's shared row has, up to 1048576.
+    pub share_words: Option<u32>,
 }
 
 /// What the words ask for.
@@ -37,6 +46,8 @@ pub struct Settings {
     pub bound: u32,
     /// Whether a loop that uses up its bound fails.
     pub full: bool,
+    /// How much is searched; 4 workers, 20000 lemmas and 65536 words where nothing is said.
+    pub effort: Effort,
 }
 
 fn model_named(word: &str) -> Option<MemoryModel>
@@ -53,42 +64,24 @@ fn model_named(word: &str) -> Option<MemoryModel>
     }
 }
 
-fn is_digit(byte: u8) -> bool
-    ensures { result ≡ read.is_digit byte }
+// A decimal number from low to high, with no zero in front.
+fn number_between(low: u32, high: u32, word: &str) -> Option<u32>
+    ensures value { result ≡ read.number_between low high word.now }
+    ensures within { IsWithin low high result }
 {
-    b'0' <= byte && byte <= b'9'
-}
-
-fn bounded(number: u32) -> Option<u32>
-    ensures value { result ≡ read.bounded number }
-    ensures within { IsWithin result }
-{
-    if 1 <= number && number <= 64 {
+    let number = number(word.as_bytes())?;
+    if low <= number && number <= high {
         Some(number)
     } else {
         None
     }
 }
 
-// A decimal number from 1 to 64, with no zero in front.
-fn bound_named(word: &str) -> Option<u32>
-    ensures value { result ≡ read.bound_named word.now }
-    ensures within { IsWithin result }
-{
-    match word.as_bytes() {
-        [b] if is_digit(*b) => bounded(u32::from(*b - b'0')),
-        [b, c] if b'1' <= *b && is_digit(*b) && is_digit(*c) => {
-            bounded(u32::from(*b - b'0') * 10 + u32::from(*c - b'0'))
-        }
-        _ => None,
-    }
-}
-
 // The model, where none was given before.
 fn add_model(options: Options, value: &str) -> Option<Options>
-    requires { IsWithin options.bound }
+    requires { AreWithin options }
     ensures value { result ≡ read.add_model options.model options value.now }
-    ensures within { IfSome result (λ o. IsWithin o.bound) }
+    ensures within { IfSome result AreWithin }
 {
     if options.model.is_some() {
         return None;
@@ -101,24 +94,69 @@ fn add_model(options: Options, value: &str) -> Option<Options>
 }
 
 fn add_bound(options: Options, value: &str) -> Option<Options>
-    requires { IsWithin options.bound }
+    requires { AreWithin options }
     ensures value { result ≡ read.add_bound options.bound options value.now }
-    ensures within { IfSome result (λ o. IsWithin o.bound) }
+    ensures within { IfSome result AreWithin }
 {
     if options.bound.is_some() {
         return None;
     }
-    let bound = bound_named(value)?;
+    let number = number_between(1, 64, value)?;
     Some(Options {
-        bound: Some(bound),
+        bound: Some(number),
+        ..options
+    })
+}
+
+fn add_workers(options: Options, value: &str) -> Option<Options>
+    requires { AreWithin options }
+    ensures value { result ≡ read.add_workers options.workers options value.now }
+    ensures within { IfSome result AreWithin }
+{
+    if options.workers.is_some() {
+        return None;
+    }
+    let number = number_between(1, 16, value)?;
+    Some(Options {
+        workers: Some(number),
+        ..options
+    })
+}
+
+fn add_budget(options: Options, value: &str) -> Option<Options>
+    requires { AreWithin options }
+    ensures value { result ≡ read.add_budget options.budget options value.now }
+    ensures within { IfSome result AreWithin }
+{
+    if options.budget.is_some() {
+        return None;
+    }
+    let number = number_between(1, 1000000, value)?;
+    Some(Options {
+        budget: Some(number),
+        ..options
+    })
+}
+
+fn add_share_words(options: Options, value: &str) -> Option<Options>
+    requires { AreWithin options }
+    ensures value { result ≡ read.add_share_words options.share_words options value.now }
+    ensures within { IfSome result AreWithin }
+{
+    if options.share_words.is_some() {
+        return None;
+    }
+    let number = number_between(0, 1048576, value)?;
+    Some(Options {
+        share_words: Some(number),
         ..options
     })
 }
 
 fn add_full(options: Options) -> Option<Options>
-    requires { IsWithin options.bound }
+    requires { AreWithin options }
     ensures value { result ≡ read.add_full options.full options }
-    ensures within { IfSome result (λ o. IsWithin o.bound) }
+    ensures within { IfSome result AreWithin }
 {
     if options.full {
         return None;
@@ -131,14 +169,20 @@ fn add_full(options: Options) -> Option<Options>
 
 // One more option, with its value.
 fn add_option(options: Options, name: &str, value: &str) -> Option<Options>
-    requires { IsWithin options.bound }
+    requires { AreWithin options }
     ensures value { result ≡ read.add_option options name.now value.now }
-    ensures within { IfSome result (λ o. IsWithin o.bound) }
+    ensures within { IfSome result AreWithin }
 {
     if name == "--model" {
         add_model(options, value)
     } else if name == "--unroll" {
         add_bound(options, value)
+    } else if name == "--workers" {
+        add_workers(options, value)
+    } else if name == "--budget" {
+        add_budget(options, value)
+    } else if name == "--share" {
+        add_share_words(options, value)
     } else {
         None
     }
@@ -147,9 +191,9 @@ fn add_option(options: Options, name: &str, value: &str) -> Option<Options>
 // The options from this word on, behind those that were read. Each is given once at most, so the calls are few.
 fn options_from(words: &Words, at: usize, options: Options) -> Option<Options>
     requires at { at ≤ length words.now }
-    requires bound { IsWithin options.bound }
+    requires within { AreWithin options }
     ensures value { result ≡ read.options_from None options (drop at words.now) }
-    ensures within { IfSome result (λ o. IsWithin o.bound) }
+    ensures within { IfSome result AreWithin }
 {
     if at == words.len() {
         return Some(options);
@@ -204,16 +248,31 @@ fn are_files(words: &Words, job: Job) -> bool
     }
 }
 
+// How much is searched.
+fn effort_of(options: Options) -> Effort
+    requires { AreWithin options }
+    ensures value { result ≡ read.effort_of options }
+    ensures within { IsAffordable result }
+{
+    Effort {
+        workers: options.workers.unwrap_or(4),
+        budget: options.budget.unwrap_or(20000),
+        share_words: options.share_words.unwrap_or(65536),
+    }
+}
+
 fn settled(job: Job, options: Options) -> Settings
-    requires { IsWithin options.bound }
+    requires { AreWithin options }
     ensures value { result ≡ read.settled job options }
     ensures within { (1 ≤ result.bound) × (result.bound ≤ 64) }
+    ensures effort { IsAffordable result.effort }
 {
     Settings {
         job,
         model: options.model.unwrap_or(MemoryModel::Sc),
         bound: options.bound.unwrap_or(2),
         full: options.full,
+        effort: effort_of(options),
     }
 }
 
@@ -222,6 +281,7 @@ fn job_with(words: &Words, job: Job) -> Option<Settings>
     requires { 2 ≤ length words.now }
     ensures settings { result ≡ read.job_with job (drop 2 words.now) }
     ensures bound { IfSome result (λ s. (1 ≤ s.bound) × (s.bound ≤ 64)) }
+    ensures effort { IfSome result (λ s. IsAffordable s.effort) }
     ensures enough { IfSome result (λ s. 2 + file_count s.job ≤ length words.now) }
 {
     if !are_files(words, job) {
@@ -231,6 +291,9 @@ fn job_with(words: &Words, job: Job) -> Option<Settings>
         model: None,
         bound: None,
         full: false,
+        workers: None,
+        budget: None,
+        share_words: None,
     };
     let options = options_from(words, 2 + file_count(job), none)?;
     Some(settled(job, options))
@@ -241,6 +304,7 @@ pub fn settings_of(words: &Words) -> Option<Settings>
     ensures settings { result ≡ read.settings_of words.now }
     ensures enough { IfSome result (λ s. 2 + file_count s.job ≤ length words.now) }
     ensures bound { IfSome result (λ s. (1 ≤ s.bound) × (s.bound ≤ 64)) }
+    ensures effort { IfSome result (λ s. IsAffordable s.effort) }
 {
     if words.len() < 2 {
         return None;

@@ -1,5 +1,5 @@
 //! Tests of the front end, from texts and words: tokens, and trees of expressions, statements and programs; names, types,
-//! sections, recursion and limits of whole texts, with the place of each refusal; what is told of a program; the first form.
+//! sections, recursion and limits of whole texts, with the place of each refusal; what is told of a program.
 //!
 //! They stand above the crates that they try, so that each of these is proved once. A table has a row for each case, and one
 //! function goes through it.
@@ -7,8 +7,6 @@
 
 #[cfg(test)]
 mod expressions;
-#[cfg(test)]
-mod forms;
 #[cfg(test)]
 mod levels;
 #[cfg(test)]

@@ -9,7 +9,11 @@ mod calls;
 #[cfg(test)]
 mod desks;
 #[cfg(test)]
+mod models;
+#[cfg(test)]
 mod programs;
+#[cfg(test)]
+mod relaxed;
 #[cfg(test)]
 mod replay;
 #[cfg(test)]

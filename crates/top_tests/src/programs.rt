@@ -1,4 +1,4 @@
-// Programs that are well formed and not of the first form.
+// Programs as users have them.
 
 // A program as a user of software verification has it, with includes, externs and attributes.
 pub(crate) fn fibonacci() -> &'static str {
@@ -24,6 +24,37 @@ int main(int argc, char **argv) {
   pthread_create(&id2, NULL, t2, NULL);
   __VERIFIER_atomic_begin();
   int ok = i < 9;
+  __VERIFIER_atomic_end();
+  if (!ok) { ERROR: { reach_error(); abort(); } }
+  return 0;
+}
+"
+}
+
+// The same, with an assertion that one order of the sections violates.
+pub(crate) fn fibonacci_reached() -> &'static str {
+    "#include <pthread.h>
+extern void abort(void);
+extern void __assert_fail(const char *, const char *, unsigned int, const char *) __attribute__ ((__nothrow__ , __leaf__)) __attribute__ ((__noreturn__));
+void reach_error() { __assert_fail(\"0\", \"fib.c\", 4, \"reach_error\"); }
+extern void __VERIFIER_atomic_begin(void);
+extern void __VERIFIER_atomic_end(void);
+#define NUM 2
+int i = 1, j = 1;
+void *t1(void *arg) {
+  for (int k = 0; k < NUM; k++) { __VERIFIER_atomic_begin(); i = i + j; __VERIFIER_atomic_end(); }
+  pthread_exit(NULL);
+}
+void *t2(void *arg) {
+  for (int k = 0; k < NUM; k++) { __VERIFIER_atomic_begin(); j = j + i; __VERIFIER_atomic_end(); }
+  pthread_exit(NULL);
+}
+int main(int argc, char **argv) {
+  pthread_t id1, id2;
+  pthread_create(&id1, NULL, t1, NULL);
+  pthread_create(&id2, NULL, t2, NULL);
+  __VERIFIER_atomic_begin();
+  int ok = i < 8;
   __VERIFIER_atomic_end();
   if (!ok) { ERROR: { reach_error(); abort(); } }
   return 0;

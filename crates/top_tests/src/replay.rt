@@ -6,7 +6,7 @@ use std::test::Fail;
 use std::thread::Threads;
 
 // Store buffering: each of two threads writes one cell and reads the other's.
-fn store_buffering() -> &'static str {
+pub(crate) fn store_buffering() -> &'static str {
     "int x0, y0, r0, s0;
 void *a0(void *p) { x0 = 1; r0 = y0; return 0; }
 void *b0(void *p) { y0 = 1; s0 = x0; return 0; }
@@ -64,7 +64,7 @@ end
 }
 
 // What is printed of a program and a witness, by the words of this line; the status must be this.
-fn replayed<R: Threads + Sync + AllocGlobal>(
+pub(crate) fn replayed<R: Threads + Sync + AllocGlobal>(
     rt: &R,
     program: &str,
     witness: &str,

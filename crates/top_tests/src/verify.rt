@@ -1,4 +1,4 @@
-// What `verify` says of texts: verdicts on the first form, refusals, and programs that it does not decide yet.
+// What `verify` says of texts: verdicts, refusals and limits.
 use crate::calls::{call, desk_with};
 use crate::programs;
 use dg_base::MemDesk;
@@ -72,8 +72,8 @@ end
 "
 }
 
-// The first of two writers is last; the second of three assertions fails.
-fn first_last() -> &'static str {
+// Each of three assertions may fail.
+pub(crate) fn first_last() -> &'static str {
     "int cell;
 void *g(void *p) { cell = 7; cell = 5; return 0; }
 void *f(void *p) { cell = 4; return 0; }
@@ -89,25 +89,6 @@ int main() {
   assert(cell == 5);
   return 0;
 }
-"
-}
-
-fn first_last_answer() -> &'static str {
-    "UNSAFE thread 0 at 13:3
-deagle-witness 1
-thread 0 main 0
-script 1 1 1 4 4 4
-thread 1 f 0
-script
-thread 2 g 0
-script
-thread 3 f 0
-script
-rf 0.7 1.1
-rf 0.8 1.1
-rf 0.9 1.1
-co cell init 2.1 2.2 3.1 1.1
-end
 "
 }
 
@@ -158,10 +139,9 @@ fn rows_on_texts(rt: HostRuntime) -> Result<(), Fail> {
         (row_1(), 1, row_1_answer()),
         (same(), 0, "SAFE\n"),
         (initial(), 1, initial_answer()),
-        (first_last(), 1, first_last_answer()),
         (commented(), 1, commented_answer()),
         ("int main() { return 0; }", 0, "SAFE\n"),
-        ("int main() { return 1; }", 4, "refused E0 NotYet\n"),
+        ("int main() { return 1; }", 0, "SAFE\n"),
     ];
     for (text, status, printed) in rows {
         assert!(rt; answers(&rt, text, status, printed)?);
@@ -215,7 +195,7 @@ fn with_writes(alloc: Global, count: u32, last: &str) -> Result<String, Fail> {
 #[test]
 fn rows_on_limits(rt: HostRuntime) -> Result<(), Fail> {
     let many = with_writes(rt.alloc(), 32, "")?;
-    assert!(rt; answers(&rt, many.as_str(), 4, "refused E0 NotYet\n")?);
+    assert!(rt; answers(&rt, many.as_str(), 0, "SAFE\n")?);
     let too_many = with_writes(rt.alloc(), 32, " x = 1;")?;
     assert!(rt;
         answers(
@@ -257,10 +237,10 @@ fn rows_on_checked_programs(rt: HostRuntime) -> Result<(), Fail> {
         programs::counting_in_loops(),
         programs::own_assertions(),
     ] {
-        assert!(rt; answers(&rt, text, 4, "refused E0 NotYet\n")?);
+        assert!(rt; answers(&rt, text, 0, "SAFE\n")?);
     }
     let most = with_cells(rt.alloc(), 32, ", y[31];")?;
-    assert!(rt; answers(&rt, most.as_str(), 4, "refused E0 NotYet\n")?);
+    assert!(rt; answers(&rt, most.as_str(), 0, "SAFE\n")?);
     let too_many = with_cells(rt.alloc(), 32, ", y[32];")?;
     assert!(rt;
         answers(

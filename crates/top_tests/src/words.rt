@@ -26,6 +26,15 @@ fn bad_lines() -> &'static [&'static str] {
         "deagle verify row1.c --full 1",
         "deagle verify --full row1.c",
         "deagle replay row1.c --full",
+        "deagle verify row1.c --workers 0",
+        "deagle verify row1.c --workers 17",
+        "deagle verify row1.c --workers 04",
+        "deagle verify row1.c --budget 0",
+        "deagle verify row1.c --budget 1000001",
+        "deagle verify row1.c --share 1048577",
+        "deagle verify row1.c --share -1",
+        "deagle verify row1.c --workers 2 --workers 2",
+        "deagle verify row1.c --budget",
     ]
 }
 
@@ -39,32 +48,28 @@ fn rows_on_words(rt: HostRuntime) -> Result<(), Fail> {
     Ok(())
 }
 
-// Lines with options, and what is printed of a program that is safe.
-fn with_options() -> &'static [(&'static str, &'static str)] {
+// Lines with options, all of a program that is safe.
+fn with_options() -> &'static [&'static str] {
     &[
-        ("deagle verify same.c --model sc", "SAFE\n"),
-        ("deagle verify same.c --model tso", "refused E0 NotYet\n"),
-        (
-            "deagle verify same.c --unroll 64 --model pso",
-            "refused E0 NotYet\n",
-        ),
-        ("deagle verify same.c --model sc --unroll 1", "SAFE\n"),
-        ("deagle verify same.c --full", "SAFE\n"),
-        ("deagle verify same.c --full --model sc", "SAFE\n"),
-        ("deagle verify same.c --unroll 1 --full", "SAFE\n"),
-        (
-            "deagle verify same.c --unroll 1 --full --model tso",
-            "refused E0 NotYet\n",
-        ),
+        "deagle verify same.c --model sc",
+        "deagle verify same.c --model tso",
+        "deagle verify same.c --unroll 64 --model pso",
+        "deagle verify same.c --model sc --unroll 1",
+        "deagle verify same.c --full",
+        "deagle verify same.c --full --model sc",
+        "deagle verify same.c --unroll 1 --full",
+        "deagle verify same.c --unroll 1 --full --model tso",
+        "deagle verify same.c --workers 1 --budget 1000000 --share 1048576",
+        "deagle verify same.c --share 0 --workers 16 --full",
     ]
 }
 
 #[test]
 fn rows_on_options(rt: HostRuntime) -> Result<(), Fail> {
-    for (line, printed) in with_options() {
+    for line in with_options() {
         let mut desk = desk_with(rt.alloc(), "same.c", same())?;
-        call(&rt, &mut desk, line)?;
-        assert!(rt; desk.printed() == printed.as_bytes());
+        assert_eq!(rt; call(&rt, &mut desk, line)?, 0);
+        assert!(rt; desk.printed() == b"SAFE\n".as_slice());
     }
     Ok(())
 }

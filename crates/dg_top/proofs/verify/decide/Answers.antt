@@ -1,22 +1,31 @@
-use Rattle.std.proofs.Common.{◌≡◌}
-use Rattle.axiom_model.specs.declared.MemoryModel.TheVariants.{Sc, Tso, Pso}
-use Rattle.dg_top.specs.Answers.{IsVerdict, NotYet, not_yet}
+use Rattle.std.proofs.Common.{List, subst, sym}
+use Rattle.verdict_run.specs.declared.decision.Report.{Report}
+use Rattle.program_verdict.specs.declared.ProgramVerdict.{ProgramVerdict}
+use Rattle.program_verdict.specs.Verdicts.{IsUndecided, IsVerdictOf}
+use Rattle.dg_top.specs.Answers.{IsVerdict, Safe, Unknown, safe, unknown}
 use Rattle.dg_top.specs.Replies.{IsOneOf, Spells}
 use Rattle.dg_top.proofs.Texts.{if_ok}
 use Rattle.dg_top.proofs.verify.decide.Goals as goal
 
-pub returns-in-Tso : goal.returns-in-Tso
-returns-in-Tso c =
-    if_ok c.not_yet.result (Spells NotYet) (IsOneOf (IsVerdict c.args.model c.args.checked.now)) (λ r spelled. record {
-      answer = NotYet;
-      allowed = not_yet (λ d. let e : c.args.model ≡ Sc = d.0 in let f : c.args.model ≡ Tso = c.in-Tso.is in absurd cc);
+pub returns-in-Safe : goal.returns-in-Safe
+returns-in-Safe g c =
+    let m = c.args.model in
+    let effort = c.args.effort.now in
+    let p = c.args.checked.now in
+    if_ok c.safe.result (Spells Safe) (IsOneOf (IsVerdict m effort p)) (λ r spelled. record {
+      answer = Safe;
+      allowed = safe (subst (λ (v : ProgramVerdict). IsVerdictOf p m effort v) c.in-Safe.is c.in_ok-decide_program.ensures);
       spelled = spelled;
-    }) c.not_yet.ensures
+    }) c.safe.ensures
 
-pub returns-in-Pso : goal.returns-in-Pso
-returns-in-Pso c =
-    if_ok c.not_yet-in-Pso.result (Spells NotYet) (IsOneOf (IsVerdict c.args.model c.args.checked.now)) (λ r spelled. record {
-      answer = NotYet;
-      allowed = not_yet (λ d. let e : c.args.model ≡ Sc = d.0 in let f : c.args.model ≡ Pso = c.in-Pso.is in absurd cc);
+pub returns-in-Unknown : goal.returns-in-Unknown
+returns-in-Unknown g c =
+    let m = c.args.model in
+    let effort = c.args.effort.now in
+    let p = c.args.checked.now in
+    let reports = c.as_slice.result.now in
+    if_ok c.unknown.result (Spells (Unknown reports)) (IsOneOf (IsVerdict m effort p)) (λ r spelled. record {
+      answer = Unknown reports;
+      allowed = unknown reports (subst (λ (l : List Report). IsUndecided p m effort l) (sym c.as_slice.ensures) (subst (λ (v : ProgramVerdict). IsVerdictOf p m effort v) c.in-Unknown.is c.in_ok-decide_program.ensures));
       spelled = spelled;
-    }) c.not_yet-in-Pso.ensures
+    }) c.unknown.ensures

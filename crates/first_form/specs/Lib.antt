@@ -1,4 +1,0 @@
-pub mod Form
-pub mod Reserved
-pub mod Trees
-pub mod Whole

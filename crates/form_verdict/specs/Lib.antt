@@ -1,4 +1,0 @@
-pub mod Final
-pub mod Search
-pub mod Verdict
-pub mod Deciding
