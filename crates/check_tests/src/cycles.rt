@@ -9,7 +9,7 @@ use dg_base::{List, Lit, OutOfMemory};
 use std::alloc::Global;
 use std::test::Fail;
 
-const HEAD: &str = "deagle-log 2\nmodel sc\nunroll 1\nvars 4\nclauses 1\nnodes 3\natoms 3\n";
+const HEAD: &str = "deagle-log 2\nmodel sc\nunroll 1\nvars 4\nclauses 3\nnodes 3\natoms 3\n";
 
 // Where 2 and 3 are true, the read comes before the second write, by an edge that both derive; the fixed edge closes a cycle. So do
 // the edges of 2 and 4, and those of 3 and 4 with the fixed one.
@@ -56,12 +56,15 @@ fn atom(alloc: Global, lit: Lit, kind: AtomKind, edge: Edge) -> Result<Atom, Out
     })
 }
 
-// The nodes are a write, a read of it, and another write, with a fixed edge from the last to the read.
-fn three_nodes(alloc: Global) -> Result<Problem, OutOfMemory> {
+/// The nodes are a write, a read of it, and another write, with a fixed edge from the last to the read. The clauses say that 2 and 3
+/// are true.
+pub fn three_nodes(alloc: Global) -> Result<Problem, OutOfMemory> {
     let mut gates = Gates::new(alloc)?;
     let reads = gates.fresh()?;
     let orders = gates.fresh()?;
     let plain = gates.fresh()?;
+    gates.clause(&[reads])?;
+    gates.clause(&[orders])?;
     let source = AtomKind::ReadFrom { write: 0, read: 1 };
     let order = AtomKind::WriteOrder {
         first: 0,

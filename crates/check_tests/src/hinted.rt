@@ -43,7 +43,8 @@ const TEXTS: &[(&str, Told)] = &[
     ),
 ];
 
-fn checked<L: Ledger>(alloc: Global, problem: &Problem, log: &HintedLog, blank: Blank) -> Told
+/// What is told of a log with hints.
+pub fn checked<L: Ledger>(alloc: Global, problem: &Problem, log: &HintedLog, blank: Blank) -> Told
     requires name { blank.name ≡ L.name }
     requires parts { blank.parts ≡ L.parts }
     requires some { 0 < L.parts }

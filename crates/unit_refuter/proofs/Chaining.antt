@@ -26,7 +26,8 @@ take_next [] n x e = absurd (get_nothing n x e)
 take_next (y ∷ ys) zero x e = let s : y ≡ x = cc in ap (λ z. z ∷ []) s
 take_next (y ∷ ys) (suc n) x e = ap (λ z. y ∷ z) (take_next ys n x e)
 
-rising_lt : (xs : List ℕ) → IsStrictlyIncreasing xs → (i j : ℕ) → i < j → j < length xs → slice_index xs i < slice_index xs j
+-- rising numbers rise from each place to each later one
+pub rising_lt : (xs : List ℕ) → IsStrictlyIncreasing xs → (i j : ℕ) → i < j → j < length xs → slice_index xs i < slice_index xs j
 rising_lt xs h i zero lt w = absurd (omega arith)
 rising_lt xs h i (suc j) lt w =
     let e : j + 1 ≡ suc j = omega arith in
@@ -36,7 +37,7 @@ rising_lt xs h i (suc j) lt w =
       | inr other ↦ let r = rising_lt xs h i j (omega arith) (omega arith) in omega arith
     ]
 
-var_at : (lits : List Lit) (k : ℕ) (l : Lit) → slice_get lits k ≡ Some l → slice_index (map var lits) k ≡ var l
+pub var_at : (lits : List Lit) (k : ℕ) (l : Lit) → slice_get lits k ≡ Some l → slice_index (map var lits) k ≡ var l
 var_at lits k l e = get_or_from_slice_get (map var lits) k (var l) 0 (get_map var lits k l e)
 
 -- where the variables rise, no literal is there with its negation

@@ -1,5 +1,5 @@
 // Refutes clauses by unit propagation.
-ghost use Rattle.std.specs.Prelude.{◌≡◌, ◌++◌, ◌∷◌, [], All, Contains, IfOk, List as TheList, None, OnErr, OnOk, false, option_map, true};
+ghost use Rattle.std.specs.Prelude.{◌≡◌, ◌<◌, ◌++◌, ◌∷◌, [], All, Contains, IfOk, List as TheList, None, OnErr, OnOk, Some, false, length, option_map, slice_get, true};
 ghost use Rattle.dg_base.specs.declared.Lit.{Lit as Literal};
 ghost use Rattle.cnf_problem.specs.Literals.{IsOver, negated as negation};
 ghost use Rattle.cnf_problem.specs.declared.problem.Problem.{Problem as TheProblem};
@@ -147,6 +147,21 @@ impl Refuter {
         }
         self.store.add(lits, &self.trail)?;
         Ok(())
+    }
+
+    /// The trail: what follows from the clauses alone, and between `refute` and `restore` what follows from the denial too.
+    pub fn trail(&self) -> &Trail
+        ensures { result.now ≡ self.now.trail }
+    {
+        &self.trail
+    }
+
+    /// The literals of the clause with this number: the problem's clauses come first, those that were added behind them.
+    pub fn clause<'a>(&'a self, problem: &'a Problem, id: ClauseId) -> &'a [Lit]
+        requires { id.0 < length (clauses_of problem.now self.now.store) }
+        ensures { slice_get (clauses_of problem.now self.now.store) id.0 ≡ Some result.now }
+    {
+        self.store.clause(problem, id)
     }
 
     /// The literals of the trail, the oldest first.

@@ -1,0 +1,3 @@
+pub mod Adding
+pub mod Lean
+pub mod Walking

@@ -1,0 +1,4 @@
+pub mod Alone
+pub mod Answering
+pub mod Safety
+pub mod Writing

@@ -1,0 +1,4 @@
+pub mod Heads
+pub mod Logs
+pub mod Proving
+pub mod Laws

@@ -1,0 +1,6 @@
+mod OneKind
+mod Numbers
+mod Places
+mod Commands
+mod Matching
+mod Asked
