@@ -51,6 +51,12 @@ def texts(turns):
     cells = ", ".join(f"a{i}[{CELLS}]" for i in range(8100))
     yield "weightless_arrays", main_of("for (;;) { int " + cells + "; }")
     yield "weightless_numbers", main_of("for (;;) { " + " ".join(f"{i};" for i in range(8000)) + " }")
+    # the same in a loop in a loop: numbers, statements that are nothing, and names behind many others
+    numbers = " ".join(f"{i};" for i in range(2, 30002))
+    yield "nested_numbers", main_of("for (;;) for (;;) { " + numbers + " }")
+    yield "nested_nothing", main_of("for (;;) for (;;) { " + "; " * 60000 + "}")
+    names = ", ".join(f"v{i}" for i in range(10000))
+    yield "nested_names", main_of("int " + names + "; for (;;) for (;;) { " + "v0; " * 15000 + "}")
 
 
 folder = sys.argv[1]

@@ -26,6 +26,7 @@ impl Emitter {
     fn variable_named(&self, name: &[u8]) -> Option<&Variable>
         ensures { option_copied result ≡ pieces.variable_named self.now.scope name.now }
     {
+        self.look_for(name, self.scope.len());
         let mut found = None;
         for (i, variable) in self.scope.iter().enumerate() {
             if variable.name.as_slice() == name {
@@ -173,6 +174,7 @@ impl Emitter {
     ) -> Result<List<Cell>, OutOfMemory>
         ensures { Emits result self.new (pieces.find_cells (setting_at table.now).shared place name.now guard index self.old) }
     {
+        self.look_for(name, table.shared.len());
         let own = match self.variable_named(name) {
             Some(variable) => Some((variable.first, variable.count)),
             None => None,
@@ -192,6 +194,7 @@ impl Emitter {
     pub fn name_unsigned(&self, table: &Table, name: &[u8]) -> bool
         ensures { result ≡ pieces.name_unsigned (setting_at table.now).shared name.now self.now.scope }
     {
+        self.look_for(name, table.shared.len());
         match self.variable_named(name) {
             Some(variable) => variable.unsigned,
             None => match table.shared_named(name) {

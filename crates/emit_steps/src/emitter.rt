@@ -23,11 +23,48 @@ pub const CREATES: u32 = 4;
 /// An instance with more steps or locals than this is refused as want of memory.
 pub const MOST: u32 = 16777215;
 
+/// What a step or a local costs, in units of work.
+pub const ENTRY: u64 = 64;
+
+/// What a form that is met costs, in units of work.
+const FORM: u64 = 16;
+
+/// How many bytes of a name are read or copied for a unit of work.
+const NAME_BYTES: u64 = 16;
+
 impl Emitter {
+    /// So many units of work are done, or all that were left.
+    pub fn spend(&self, units: u64) {
+        self.left.set(self.left.get().saturating_sub(units));
+    }
+
+    /// A name is looked for among so many entries, each of which may have to be read as far as the name is long.
+    pub fn look_for(&self, name: &[u8], entries: usize) {
+        let each = (name.len() as u64 / NAME_BYTES).saturating_add(1);
+        self.spend(each.saturating_mul(entries as u64));
+    }
+
+    // A name is copied.
+    pub(crate) fn copy_name(&self, name: &[u8]) {
+        self.spend(name.len() as u64 / NAME_BYTES);
+    }
+
+    /// How many forms may still stand inside one another, one form further in. Want of memory also where no work is left.
+    pub fn inner(&self, room: usize) -> Result<usize, OutOfMemory>
+        ensures { IfOk result (λ r. r + 1 ≡ room) }
+    {
+        if room == 0 || self.left.get() == 0 {
+            return Err(OutOfMemory);
+        }
+        self.spend(FORM);
+        Ok(room - 1)
+    }
+
     /// So many locals that were not used; the answer is the first.
     pub fn fresh_cells(&mut self, count: u32) -> Result<u32, OutOfMemory>
         ensures { Emits result self.new (emitting.fresh_cells count self.old) }
     {
+        self.spend(ENTRY * count as u64);
         let first = self.next;
         match first.checked_add(count) {
             Some(next) if next <= MOST => {
@@ -76,17 +113,19 @@ impl Emitter {
         if value == 1 {
             return Ok(ONE);
         }
+        self.spend(self.numbers.len() as u64);
         match self.holder(value) {
             Some(local) => Ok(local),
             None => self.hold_new(value),
         }
     }
 
-    /// A step under a guard.
+    /// A step under a guard. Want of memory also where no work is left.
     pub fn emit(&mut self, guard: u32, act: FlatAct) -> Result<(), OutOfMemory>
         ensures { Emits result self.new (emitting.emit guard act self.old) }
     {
-        if MOST as usize <= self.steps.len() {
+        self.spend(ENTRY);
+        if MOST as usize <= self.steps.len() || self.left.get() == 0 {
             return Err(OutOfMemory);
         }
         self.steps.push(FlatStep { guard, act })?;
@@ -188,14 +227,4 @@ impl Emitter {
         self.fail(guard, place)?;
         Ok(NONE)
     }
-}
-
-/// How many forms may still stand inside one another, one form further in.
-pub fn inner(room: usize) -> Result<usize, OutOfMemory>
-    ensures { IfOk result (λ r. r + 1 ≡ room) }
-{
-    if room == 0 {
-        return Err(OutOfMemory);
-    }
-    Ok(room - 1)
 }

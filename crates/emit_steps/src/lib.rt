@@ -9,13 +9,11 @@
 mod cells;
 mod emitter;
 mod instance;
-mod operators;
 mod scopes;
 mod sections;
 mod state;
 mod table;
 
-pub use emitter::{MOST, NONE, ONE, inner};
-pub use operators::{step_op, unary_op, unary_unsigned, word_unsigned};
+pub use emitter::{ENTRY, MOST, NONE, ONE};
 pub use state::{Cell, Emitter, Number, Variable};
-pub use table::{Table, cell_count, count_functions, shared_of};
+pub use table::{Table, shared_of};

@@ -4,10 +4,10 @@ ghost use Rattle.emit_steps.specs.Emitting.{Emits};
 ghost use Rattle.emit_steps.specs.Calling as calling;
 
 use crate::emitter::NONE;
-use crate::operators::word_unsigned;
 use crate::state::{Emitter, Variable};
 use c_tree::{Param, TypeWord};
 use dg_base::{Bytes, OutOfMemory};
+use run_model::word_unsigned;
 use sqlite_items::at;
 
 impl Emitter {
@@ -43,6 +43,7 @@ impl Emitter {
     ) -> Result<(), OutOfMemory>
         ensures { Emits result self.new (calling.enter word name.now first count self.old) }
     {
+        self.copy_name(name);
         self.scope.push(Variable {
             name: Bytes::from_slice(self.alloc, name)?,
             unsigned: word_unsigned(word),

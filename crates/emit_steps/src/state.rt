@@ -55,6 +55,8 @@ pub struct Emitter {
     pub(crate) depth: u64,
     /// The guard under which the outermost section was opened.
     pub(crate) opened: u32,
+    /// How much work may still be done.
+    pub(crate) left: std::cell::Cell<u64>,
 }
 
 impl Model for Emitter {
@@ -69,8 +71,10 @@ impl Emitter {
     ghost use Rattle.std.specs.Prelude.{◌≡◌};
     ghost use Rattle.emit_steps.specs.Instances.{begins};
 
-    /// An emitter for an instance whose first Create names the instance `first`.
-    pub fn new(alloc: Global, first: u32) -> Emitter
+    /// An emitter for an instance whose first Create names the instance `first`, with so much work to do at most: a unit for each
+    /// entry that is looked at and for each sixteen bytes of its name, sixteen units for a form that is met,
+    /// [`ENTRY`](crate::ENTRY) units for a step or a local.
+    pub fn new(alloc: Global, first: u32, left: u64) -> Emitter
         ensures { result ≡ begins first }
     {
         Emitter {
@@ -83,7 +87,13 @@ impl Emitter {
             scope: Vec::new(alloc),
             depth: 0,
             opened: 3,
+            left: std::cell::Cell::new(left),
         }
+    }
+
+    /// How much work may still be done, in units.
+    pub fn left(&self) -> u64 {
+        self.left.get()
     }
 
     /// Where memory comes from.

@@ -1,16 +1,15 @@
 // What an emission needs of the program.
-ghost use Rattle.std.specs.Prelude.{◌≡◌, ◌+◌, IfOk, OnOk, option_copied, option_map, slice_get, length, map};
-ghost use Rattle.c_rules.specs.Names.{functions_of};
-ghost use Rattle.c_check.specs.Limits.{cell_count, cells_of_all};
+ghost use Rattle.std.specs.Prelude.{◌≡◌, ◌+◌, IfOk, OnOk, option_copied, option_map, slice_get, map};
+ghost use Rattle.c_check.specs.Limits.{cells_of_all};
 ghost use Rattle.run_model.specs.Cells.{shared_named};
 ghost use Rattle.run_model.specs.Calls.{function_named};
 ghost use Rattle.run_model.specs.Programs as programs;
 ghost use Rattle.emit_steps.specs.Tables.{setting_at, shared_as};
 
-use crate::operators::word_unsigned;
 use crate::state::Variable;
-use c_tree::{Declarator, Function, Item, TypeWord, constant_value};
+use c_tree::{Declarator, Function, Item, TypeWord};
 use dg_base::{Bytes, List, OutOfMemory};
+use run_model::{cell_count, word_unsigned};
 use std::alloc::Global;
 
 /// What an emission needs of the program: the shared variables, the items with the functions, how often a loop runs at most,
@@ -72,29 +71,6 @@ impl<'a> Table<'a> {
             }
         }
         None
-    }
-}
-
-/// The number of functions with a body.
-pub fn count_functions(items: &[Item]) -> usize
-    ensures { result ≡ length (functions_of items.now) }
-{
-    let mut n = 0usize;
-    for item in items {
-        if let Item::Function(_) = item {
-            n += 1;
-        }
-    }
-    n
-}
-
-/// The number of cells of a variable.
-pub fn cell_count(declarator: &Declarator) -> u32
-    ensures { result ≡ cell_count declarator.now }
-{
-    match &declarator.size {
-        None => 1,
-        Some(size) => constant_value(size),
     }
 }
 

@@ -28,7 +28,12 @@ fn is_atomic(function: &Function) -> bool
 }
 
 // The number of the function that an argument names.
-fn function_in(table: &Table, args: &[Expr], i: usize) -> Result<u32, OutOfMemory>
+fn function_in(
+    emitter: &Emitter,
+    table: &Table,
+    args: &[Expr],
+    i: usize,
+) -> Result<u32, OutOfMemory>
     ensures { IfOk result (λ f. f ≡ model.function_in (setting_at table.now) (pieces.argument (map (pieces.piece (context_at table.now)) args.now) i).spelled) }
 {
     let name = match at(args, i) {
@@ -39,6 +44,7 @@ fn function_in(table: &Table, args: &[Expr], i: usize) -> Result<u32, OutOfMemor
         None => return Ok(0),
         Some(name) => name,
     };
+    emitter.look_for(name.as_slice(), table.items.len());
     match table.function_named(name.as_slice()) {
         None => Ok(0),
         Some(number) => match u32::try_from(number) {
@@ -61,6 +67,7 @@ pub(crate) fn call(
 ) -> Result<u32, OutOfMemory>
     ensures { Emits result emitter.new (pieces.call (context_at table.now) place name.now (map (pieces.piece (context_at table.now)) args.now) (model.function_named (setting_at table.now) name.now) guard emitter.old) }
 {
+    emitter.look_for(name, table.items.len());
     match table.function_named(name) {
         Some(number) => {
             let values = values(emitter, table, room, args, guard)?;
@@ -216,7 +223,7 @@ fn call_builtin(
         Builtin::PthreadCreate => {
             let target = argument_cells(emitter, table, room, args, 0, guard)?;
             let arg = argument(emitter, table, room, args, 3, guard)?;
-            let function = function_in(table, args, 2)?;
+            let function = function_in(emitter, table, args, 2)?;
             emitter.create(guard, target.as_slice(), function, arg)
         }
         Builtin::PthreadJoin => {

@@ -8,8 +8,9 @@ ghost use Rattle.loop_unroll.specs.Whole.{context_at};
 use crate::expressions::eval;
 use c_tree::{Decl, Declarator, Expr, Initialiser, TypeWord};
 use dg_base::OutOfMemory;
-use emit_steps::{Emitter, Table, cell_count};
+use emit_steps::{Emitter, Table};
 use flat_prog::FlatAct;
+use run_model::cell_count;
 
 // Takes a number into each of so many locals.
 #[tactic(auto, using(crate::proofs::Counting::one_more))]

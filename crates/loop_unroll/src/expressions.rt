@@ -12,7 +12,8 @@ use crate::calls::call;
 use crate::types::unsigned;
 use c_tree::{AssignOp, BinaryOp, Expr, StepOp, binary_op, divides};
 use dg_base::{List, Op, OutOfMemory, Place};
-use emit_steps::{Cell, Emitter, NONE, ONE, Table, inner, step_op, unary_op};
+use emit_steps::{Cell, Emitter, NONE, ONE, Table};
+use run_model::{step_op, unary_op};
 
 /// An operator, its place, and whether its operands are Uint.
 #[derive(Clone, Copy, Drop)]
@@ -88,7 +89,7 @@ pub(crate) fn eval(
 ) -> Result<u32, OutOfMemory>
     ensures { Emits result emitter.new ((pieces.piece (context_at table.now) expr.now).run guard emitter.old) }
 {
-    let room = inner(room)?;
+    let room = emitter.inner(room)?;
     match expr {
         Expr::Number { value, .. } => emitter.number(*value),
         Expr::Text { .. } => Ok(NONE),
@@ -173,7 +174,7 @@ pub(crate) fn cells(
 ) -> Result<List<Cell>, OutOfMemory>
     ensures { Emits result emitter.new ((pieces.piece (context_at table.now) expr.now).find guard emitter.old) }
 {
-    let room = inner(room)?;
+    let room = emitter.inner(room)?;
     match expr {
         Expr::Name { place, name } => {
             emitter.find_cells(table, *place, name.as_slice(), guard, None)

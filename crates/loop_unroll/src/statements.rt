@@ -10,7 +10,7 @@ use crate::expressions::{eval, optional};
 use crate::targets::Targets;
 use c_tree::{Expr, Start, Stmt};
 use dg_base::{OutOfMemory, Place};
-use emit_steps::{Emitter, NONE, ONE, Table, inner};
+use emit_steps::{Emitter, NONE, ONE, Table};
 use flat_prog::FlatAct;
 
 // An expression that may be absent, behind a reference.
@@ -63,7 +63,7 @@ fn exec(
 ) -> Result<u32, OutOfMemory>
     ensures { Emits result emitter.new (stating.execute (context_at table.now) stmt.now targets guard emitter.old) }
 {
-    let room = inner(room)?;
+    let room = emitter.inner(room)?;
     match stmt {
         Stmt::Empty { .. } => Ok(guard),
         Stmt::Expr { expr, .. } => {

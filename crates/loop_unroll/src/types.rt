@@ -9,12 +9,14 @@ ghost use Rattle.emit_steps.specs.Tables.{setting_at};
 use c_rules::{Builtin, builtin_named};
 use c_tree::{Expr, binary_unsigned};
 use dg_base::Bytes;
-use emit_steps::{Emitter, Table, unary_unsigned, word_unsigned};
+use emit_steps::{Emitter, Table};
+use run_model::{unary_unsigned, word_unsigned};
 
 // Whether a call of this name has a value that is Uint.
-fn call_unsigned(table: &Table, name: &[u8]) -> bool
+fn call_unsigned(emitter: &Emitter, table: &Table, name: &[u8]) -> bool
     ensures { result ≡ meanings.result_unsigned (setting_at table.now) name.now (calls.function_named (setting_at table.now) name.now) }
 {
+    emitter.look_for(name, table.items.len());
     match table.function_named(name) {
         Some(number) => match table.function(number) {
             None => false,
@@ -60,13 +62,14 @@ pub(crate) fn spelled<'e>(table: &Table, expr: &'e Expr) -> Option<&'e Bytes>
 pub(crate) fn unsigned(emitter: &Emitter, table: &Table, expr: &Expr) -> bool
     ensures { result ≡ (pieces.piece (context_at table.now) expr.now).unsigned emitter.now.scope }
 {
+    emitter.spend(1);
     match expr {
         Expr::Name { name, .. } => emitter.name_unsigned(table, name.as_slice()),
         Expr::Number { unsigned, .. } => *unsigned,
         Expr::Text { .. } => false,
         Expr::Bracket { inner, .. } => unsigned(emitter, table, inner.get()),
         Expr::Index { name, .. } => emitter.name_unsigned(table, name.as_slice()),
-        Expr::Call { name, .. } => call_unsigned(table, name.as_slice()),
+        Expr::Call { name, .. } => call_unsigned(emitter, table, name.as_slice()),
         Expr::Cast { word, .. } => word_unsigned(*word),
         Expr::Unary { op, inner, .. } => unary_unsigned(*op, unsigned(emitter, table, inner.get())),
         Expr::StepBefore { target, .. } => unsigned(emitter, table, target.get()),

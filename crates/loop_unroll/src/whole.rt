@@ -10,23 +10,34 @@ ghost use Rattle.loop_unroll.specs.Unrolled.{IsUnrolled};
 use crate::calls::body;
 use c_check::{CellInfo, Checked};
 use dg_base::{List, OutOfMemory};
-use emit_steps::{Emitter, MOST, ONE, Table, count_functions, shared_of};
+use emit_steps::{Emitter, MOST, ONE, Table, shared_of};
 use flat_prog::{Flat, Instance};
+use run_model::count_functions;
 use std::alloc::Global;
 
 /// How many forms may stand inside one another, over all calls that a thread is in. So many fit a stack of 8 MiB with room to
 /// spare: a form takes some 4 KiB where nothing is optimised.
 const ROOM: usize = 1000;
 
+/// How much work the unrolling of a program takes at most, in units of [`Emitter::spend`]: so it takes seconds and less than a
+/// gigabyte, whatever the text. A program that is as large as the limits of its text allow takes a thirtieth.
+const WORK: u64 = 536870912;
+
 // What is emitted of an instance of the function of a number, whose first Create names the instance `first`.
-fn emitter_of(alloc: Global, table: &Table, number: u32, first: u32) -> Result<Emitter, OutOfMemory>
+fn emitter_of(
+    alloc: Global,
+    table: &Table,
+    number: u32,
+    first: u32,
+    left: u64,
+) -> Result<Emitter, OutOfMemory>
     requires { table.now.calls ≡ length (functions_of table.now.items.now) }
     ensures { IfOk result (λ e. whole.IsEmitted (setting_at table.now) number first e) }
 {
     match table.function(number as usize) {
         None => Err(OutOfMemory),
         Some(function) => {
-            let mut emitter = Emitter::new(alloc, first);
+            let mut emitter = Emitter::new(alloc, first, left);
             body(&mut emitter, table, ROOM, function, &[0], ONE)?;
             Ok(emitter)
         }
@@ -42,6 +53,7 @@ fn instances_of(alloc: Global, table: &Table, main: u32) -> Result<List<Instance
     let mut functions = List::new(alloc);
     functions.push(main)?;
     let mut instances = List::new(alloc);
+    let mut left = WORK;
     for n in 0..MOST as usize {
         let function = match functions.get(n) {
             None => return Ok(instances),
@@ -51,7 +63,9 @@ fn instances_of(alloc: Global, table: &Table, main: u32) -> Result<List<Instance
             Ok(first) => first,
             Err(_) => return Err(OutOfMemory),
         };
-        let (instance, created) = emitter_of(alloc, table, function, first)?.finish(function)?;
+        let emitter = emitter_of(alloc, table, function, first, left)?;
+        left = emitter.left();
+        let (instance, created) = emitter.finish(function)?;
         instances.push(instance)?;
         functions.append(created)?;
     }
@@ -83,7 +97,7 @@ fn main_of(table: &Table) -> Result<u32, OutOfMemory>
 }
 
 /// The flat program of a checked one. It is refused for want of memory alone, to which belongs that an instance has 2^24 steps
-/// or locals or more, or the program so many instances.
+/// or locals or more, the program so many instances, or the unrolling more work than [`WORK`].
 pub fn unroll(alloc: Global, checked: &Checked) -> Result<Flat, OutOfMemory>
     requires { IsChecked checked.now }
     ensures { IfOk result (IsUnrolled checked.now) }

@@ -15,7 +15,7 @@ loop-n-preserved c =
     record {
       queued = λ rest q.
           subst (λ xs. AreInstances (setting_at c.args.table.now) c.args.main (xs ++ rest)) (sym pushed)
-          (one_waits (setting_at c.args.table.now) c.in-Ok.first c.loop-n.n c.in-Some.function.now c.loop-n.functions c.in_ok-instance.created c.loop-n.instances c.args.main c.in_ok-instance.instance c.in_ok-emitter_of.field-0 (sym c.in-Some.ensures.value)
-          c.in_ok-emitter_of.ensures c.in_ok-instance.ensures.0 c.in_ok-instance.ensures.1 many c.loop-n.invariant.queued rest (subst (λ xs. AreQueued (setting_at c.args.table.now) (length xs) (drop (c.loop-n.n + 1) xs) rest) appended q));
+          (one_waits (setting_at c.args.table.now) c.in-Ok.first c.loop-n.n c.in-Some.function.now c.loop-n.functions c.in_ok-instance.created c.loop-n.instances c.args.main c.in_ok-instance.instance c.in_ok-emitter.emitter (sym c.in-Some.ensures.value)
+          c.in_ok-emitter.ensures c.in_ok-instance.ensures.0 c.in_ok-instance.ensures.1 many c.loop-n.invariant.queued rest (subst (λ xs. AreQueued (setting_at c.args.table.now) (length xs) (drop (c.loop-n.n + 1) xs) rest) appended q));
       count = ap length pushed ∙ (length-append c.loop-n.instances (c.in_ok-instance.instance ∷ []) ∙ ap (λ n. n + 1) c.loop-n.invariant.count);
     }
