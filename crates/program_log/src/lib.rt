@@ -4,6 +4,9 @@
 //! head. What is answered of a text stands in `specs/Logs`: that the text goes wrong, that it is of another problem, that its log is
 //! refused, or that it is accepted, in this order. An accepted log shows that no execution fails, whoever wrote it (`specs/Laws`).
 //!
+//! A check reads the text in pieces, and takes its entries as they come: a log without hints is checked meanwhile, and the first
+//! refusal is held until the text is read to its end (`specs/Pieces`); one with hints is checked at the end.
+//!
 //! The layers above may use [`check_text`], [`migrate_text`] and [`hinted_text`] with their contracts, and the laws.
 #![tactic(auto)]
 
@@ -13,6 +16,7 @@ mod heads;
 mod laws;
 mod migrating;
 mod proving;
+mod standing;
 
 pub use answers::{LogAnswer, Migration};
 pub use checking::check_text;

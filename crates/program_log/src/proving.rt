@@ -51,8 +51,8 @@ fn check_counted<L: Ledger>(
     check_hinted(alloc, problem, log, &mut steps)
 }
 
-// Checks a log, one with hints by these.
-fn check_any(alloc: Global, problem: &Problem, log: &AnyLog) -> Result<Accepted, Refused>
+/// Checks a log, one with hints by these.
+pub fn check_any(alloc: Global, problem: &Problem, log: &AnyLog) -> Result<Accepted, Refused>
     ensures good { OnOk result (IsGoodLog problem.now log.now) }
     ensures ends_empty { OnOk result (EndsEmpty (entries_of log.now)) }
     ensures count { IfOk result (λ a. a.entries ≡ length (entries_of log.now)) }

@@ -1,13 +1,14 @@
-use Rattle.std.proofs.Common.{ℕ, subst, sym}
-use Rattle.program_log.specs.declared.answers.LogAnswer.TheVariants.{Accepted}
-use Rattle.program_log.specs.Logs.{IsAnswerFor, accepted}
-use Rattle.program_log.specs.Proving.{IsProved}
+use Rattle.std.proofs.Common.{ℕ, false, subst, sym}
+use Rattle.log_text.specs.Faults.{IsFaultOf}
+use Rattle.program_log.specs.declared.answers.LogAnswer.TheVariants.{BadLog}
+use Rattle.program_log.specs.Logs.{IsAnswerFor}
+use Rattle.program_log.proofs.Answering.{bad_text}
 use Rattle.program_log.proofs.checking.check_for.Goals as goal
 
-pub returns-in-Proof : goal.returns-in-Proof
-returns-in-Proof c =
+pub returns-in-Err-LogText : goal.returns-in-Err-LogText
+returns-in-Err-LogText c =
     let p = c.args.checked.now in
     let x = c.args.encoded.now in
     let text = c.args.text.now in
-    let told = subst (IsProved p x text) c.in-Proof.is c.in_ok-entries.ensures in
-    subst (λ (n : ℕ). IsAnswerFor p x text (Accepted n)) (sym told.1) (accepted c.in-Proof.field-1 told.0)
+    let fault = c.in-Err-LogText in
+    subst (λ (n : ℕ). IsAnswerFor p x text (BadLog n)) (sym fault.line-is) (bad_text p x text fault.line (subst (IsFaultOf false text) fault.field-0-is fault.ensures.refused)).0
