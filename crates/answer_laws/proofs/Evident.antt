@@ -1,13 +1,11 @@
 -- An execution against which there is no evidence is consistent.
 use Rattle.std.proofs.Common.{◌≡◌, ◌≢◌, ℕ, zero, suc, ◌<◌, ◌⊎◌, List, [], ◌∷◌, Some, refl, sym, subst, ⊎_elim, inl, inr, arith}
-use Rattle.std.specs.Prelude.{slice_get, All}
+use Rattle.std.specs.Prelude.{slice_get}
 use Rattle.std.proofs.lemmas.Bool.{cases_order}
-use Rattle.std.proofs.lemmas.List.Elements.{All-get_or}
-use Rattle.std.proofs.lemmas.Option.{none-some, same_Some, get_or_from_slice_get, slice_get_within}
+use Rattle.std.proofs.lemmas.Option.{none-some, same_Some}
 use Rattle.dg_base.proofs.Lists.{get_there}
 use Rattle.axiom_model.specs.declared.MemoryModel.{MemoryModel}
 use Rattle.axiom_model.specs.declared.MemoryModel.TheVariants.{Pso, Sc, Tso}
-use Rattle.axiom_model.specs.declared.Action.{Action}
 use Rattle.axiom_model.specs.declared.Action.TheVariants.{Join, Read, Start, Write}
 use Rattle.axiom_model.specs.declared.Event.{Event}
 use Rattle.axiom_model.specs.declared.Event.TheVariants.{At, Initial}
@@ -22,6 +20,7 @@ use Rattle.consistency.specs.declared.Inconsistent.{Inconsistent}
 use Rattle.consistency.specs.declared.Inconsistent.TheVariants.{BlockCycle, GlobalCycle, LocalCycle, OutOfMemory}
 use Rattle.consistency.proofs.Circling.{cycle_source}
 use Rattle.consistency.specs.Evidence.{AreActions, AtMost, IsBlockCycle, IsEventCycle, IsEvidence, ends_of}
+use Rattle.dg_top.proofs.Spellable.{IsAction, at_place}
 use Rattle.answer_laws.proofs.ShortestCycles.{IsShortest, cycle_into, no_shortest_no_cycle}
 
 -- ---- the order of events
@@ -43,17 +42,10 @@ most_trans (At h i) (At k j) (At l m) p q =
 
 -- ---- edges lead to actions
 
-pub all_at : {A : Type 0} (P : A → Type 0) (xs : List A) (k : ℕ) (x : A) → All P xs → slice_get xs k ≡ Some x → P x
-all_at P xs k x h e = subst P (get_or_from_slice_get xs k x x e) (All-get_or P xs k x (slice_get_within xs k x e) h)
-
--- the event is an action of the execution
-abbrev pub IsAction : Execution → Event → Type 0
-IsAction x e = (a : Action) × (action_at x e ≡ Some a)
-
 module _ (s : Shape) (x : Execution) (made : WellMade s x) where
   rf_lands : (a b : Event) → Rf x a b → IsAction x b
   rf_lands a b r =
-      let h = all_at (λ (p : RfPair). (c : ℕ) × (v : ℕ) × (action_at x p.reader ≡ Some (Read c v))) x.rf r.0 (record { reader = b; source = a }) made.readers r.1 in
+      let h = at_place (λ (p : RfPair). (c : ℕ) × (v : ℕ) × (action_at x p.reader ≡ Some (Read c v))) x.rf r.0 (record { reader = b; source = a }) made.readers r.1 in
       (Read h.0 h.1, h.2)
 
   -- a place of a cell's order that is not the first

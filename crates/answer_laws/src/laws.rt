@@ -50,14 +50,15 @@ pub fn some_replay_is_allowed()
     ensures { SomeReplayIsAllowed }
 {}
 
-/// Of each accepted text, under each model, there is a verdict.
+/// Of each accepted text, under each model, there is a verdict, where no file is named for its log; whatever is named for a witness.
 pub fn some_verdict_is_allowed()
     ensures { SomeVerdictIsAllowed }
 {
     failing_is_spelled();
 }
 
-/// For all words and files some answer is allowed.
+/// For all words that neither read nor keep a log, and all files, some answer is allowed. That a program without a failing execution
+/// has a log that shows it is no law here.
 pub fn some_answer_is_allowed()
     ensures { SomeAnswerIsAllowed }
 {

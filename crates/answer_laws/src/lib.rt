@@ -1,8 +1,8 @@
 //! That there always is an answer.
 //!
 //! `dg_top` says which answers words and files allow (`specs/Answers`), and that at most one of them is a failing thread. The
-//! laws here say that some answer is always allowed, so that what is said of every allowed answer is said of something. Their
-//! form is this: it is impossible that each case is impossible.
+//! laws here say that some answer is always allowed, where no log is read or kept, so that what is said of every allowed answer is
+//! said of something. Their form is this: it is impossible that each case is impossible.
 //!
 //! Of `replay`: each text spells a candidate or is refused at a line, and a candidate of words that breaks no condition first
 //! is a failing execution. Of `verify`: a program fails only where a failing execution of it has a text. And of

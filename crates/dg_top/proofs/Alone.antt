@@ -1,5 +1,5 @@
 -- A failing execution is answered with its failing thread, and with nothing else.
-use Rattle.std.proofs.Common.{◌≡◌, ◌<◌, ℕ, Bool, true, false, List, [], ◌∷◌, Some, refl, sym, ap, subst, ◌∙◌, ⊎_elim}
+use Rattle.std.proofs.Common.{◌≡◌, ◌<◌, ℕ, Bool, true, false, List, [], ◌∷◌, Option, Some, refl, sym, ap, subst, ◌∙◌, ⊎_elim}
 use Rattle.std.proofs.lemmas.Bool.{cases_order}
 use Rattle.std.specs.Prelude.{slice_get}
 use Rattle.dg_base.specs.declared.Place.{Place}
@@ -21,8 +21,11 @@ use Rattle.witness_text.specs.Spelling.{OneCandidate, Spells}
 use Rattle.c_program.specs.Accepting.{IsAccepted, IsRefused, NamesArePlain, NotBoth, OneChecked}
 use Rattle.verdict_run.specs.declared.decision.Report.{Report}
 use Rattle.program_verdict.specs.declared.Effort.{Effort}
-use Rattle.dg_top.specs.declared.settings.Settings.{Settings}
-use Rattle.dg_top.specs.Answers.{Answer, BadWitness, Failing, IsAnswer, IsReplay, IsVerdict, Refused, Rejected, Safe, Unknown, Unsafe, bad_witness, failing, refused, rejected, replayed, safe, unknown, unsafe, verified}
+use Rattle.program_log.specs.declared.answers.LogAnswer.{LogAnswer}
+use Rattle.word_settings.specs.declared.settings.Job.TheVariants as job
+use Rattle.word_settings.specs.declared.settings.Settings.{Settings}
+use Rattle.word_settings.specs.Settings.{Word}
+use Rattle.dg_top.specs.Answers.{Answer, BadWitness, Failing, IsAnswer, IsMigrated, IsReplay, IsVerdict, Kept, Made, MadeVerdict, Migrated, OfLog, Refused, Rejected, Safe, Unknown, Unsafe, bad_witness, checked, effort_of, failing, made, made_and_refused, made_and_verified, migrated, refused, rejected, replayed, safe, unknown, unsafe, verified}
 use Rattle.dg_top.specs.Laws.{FailingIsAlone}
 
 -- ---- the first failing thread
@@ -81,6 +84,18 @@ module _ (h : ℕ) (at : Place) (a : Bool) where
   not_unsafe : (w : List ℕ) (k : ℕ) (bt : Place) (b : Bool) → Unsafe w k bt b ≡ Failing h at a → ⊥
   not_unsafe w k bt b e = cc
 
+  not_of_log : (l : LogAnswer) → OfLog l ≡ Failing h at a → ⊥
+  not_of_log l e = cc
+
+  not_migrated : (n : ℕ) → Migrated n ≡ Failing h at a → ⊥
+  not_migrated n e = cc
+
+  not_made : (n : ℕ) → Made n ≡ Failing h at a → ⊥
+  not_made n e = cc
+
+  not_made_verdict : (n : ℕ) (b : Answer) → MadeVerdict n b ≡ Failing h at a → ⊥
+  not_made_verdict n b e = cc
+
 first_text : (a c d : List ℕ) (rest : List (List ℕ)) → a ∷ rest ≡ c ∷ d ∷ [] → a ≡ c
 first_text a c d rest e = cc
 
@@ -89,6 +104,9 @@ second_text a b c d e = cc
 
 not_one_text : (a c d : List ℕ) → a ∷ [] ≡ c ∷ d ∷ [] → ⊥
 not_one_text a c d e = cc
+
+no_text : (a : List ℕ) (rest : List (List ℕ)) → [] ≡ a ∷ rest → ⊥
+no_text a rest e = cc
 
 -- ---- the answers
 
@@ -111,25 +129,37 @@ shown m p w h at way _ e (failing c k bt b s x f) =
     }
 shown m p w h at way _ e (rejected c r s b n) = absurd (not_rejected h at way p r e)
 
-no_verdict : (m : MemoryModel) (effort : Effort) (p : Checked) (h : ℕ) (at : Place) (way : Bool) (a : Answer) → a ≡ Failing h at way → IsVerdict m effort p a → ⊥
-no_verdict m effort p h at way _ e (safe s) = not_safe h at way e
-no_verdict m effort p h at way _ e (unsafe c w k bt b s x f) = not_unsafe h at way w k bt b e
-no_verdict m effort p h at way _ e (unknown reports u) = not_open h at way reports e
+no_verdict : (m : MemoryModel) (effort : Effort) (p : Checked) (log witness : Option Word) (h : ℕ) (at : Place) (way : Bool) (a : Answer) (kept : Option Kept) → a ≡ Failing h at way
+    → IsVerdict m effort p log witness a kept → ⊥
+no_verdict m effort p log witness h at way _ _ e (safe kept s k) = not_safe h at way e
+no_verdict m effort p log witness h at way _ _ e (unsafe c w k bt b kept s x f i) = not_unsafe h at way w k bt b e
+no_verdict m effort p log witness h at way _ _ e (unknown reports kept u k) = not_open h at way reports e
+
+no_migration : (m : MemoryModel) (p : Checked) (old : List ℕ) (name : Word) (h : ℕ) (at : Place) (way : Bool) (a : Answer) (kept : Option Kept) → a ≡ Failing h at way
+    → IsMigrated m p old name a kept → ⊥
+no_migration m p old name h at way _ _ e (migrated n new i) = not_migrated h at way n e
+no_migration m p old name h at way _ _ e (refused a i) = not_of_log h at way a e
 
 -- the texts that are answered with a failing thread
 record Given (s : Settings) (texts : List (List ℕ)) (h : ℕ) (at : Place) (way : Bool) : Type 0 where
   text : List ℕ
   witness : List ℕ
   program : Checked
+  job_is : s.job ≡ job.Replay
   texts_are : texts ≡ text ∷ witness ∷ []
   accepted : IsAccepted s.bound s.full text program
   shown : Shown s.model program witness h at way
 
-given : (s : Settings) (texts : List (List ℕ)) (h : ℕ) (at : Place) (way : Bool) (a : Answer) → a ≡ Failing h at way → IsAnswer s texts a → Given s texts h at way
-given s _ h at way _ e (refused text others r d) = absurd (not_refused h at way r e)
-given s _ h at way a e (verified text p b j acc v) = absurd (no_verdict s.model s.effort p h at way b e v)
-given s _ h at way a e (replayed text witness p b j acc v) =
-    record { text = text; witness = witness; program = p; texts_are = refl; accepted = acc; shown = shown s.model p witness h at way b e v }
+given : (s : Settings) (texts : List (List ℕ)) (h : ℕ) (at : Place) (way : Bool) (a : Answer) (kept : Option Kept) → a ≡ Failing h at way → IsAnswer s texts a kept → Given s texts h at way
+given s _ h at way _ _ e (refused text others r d) = absurd (not_refused h at way r e)
+given s _ h at way a kept e (verified text p l w b k j acc v) = absurd (no_verdict s.model (effort_of s) p l w h at way b k e v)
+given s _ h at way a _ e (replayed text witness p b j acc v) =
+    record { text = text; witness = witness; program = p; job_is = j; texts_are = refl; accepted = acc; shown = shown s.model p witness h at way b e v }
+given s _ h at way _ _ e (checked text l p a j acc v) = absurd (not_of_log h at way a e)
+given s _ h at way a kept e (migrated text old p name b k j acc v) = absurd (no_migration s.model p old name h at way b k e v)
+given s _ h at way _ _ e (made n j) = absurd (not_made h at way n e)
+given s _ h at way _ _ e (made_and_verified n p a j acc v) = absurd (not_made_verdict h at way n a e)
+given s _ h at way _ _ e (made_and_refused n r j d) = absurd (not_refused h at way r e)
 
 module _ (one_checked : OneChecked) (not_both : NotBoth) (plain : NamesArePlain) (one_candidate : OneCandidate)
     (unbroken : (p : Checked) (m : MemoryModel) (c : Candidate) (e : Reject) → ProgramFails p m c → IsFirstBroken p m c e → e ≡ OutOfMemory) where
@@ -151,18 +181,24 @@ module _ (one_checked : OneChecked) (not_both : NotBoth) (plain : NamesArePlain)
       let one : c ≡ g.candidate = one_candidate p.functions (cell_names p.cells) (plain bound full text p acc) w c g.candidate s g.spelled in
       absurd (n (unbroken p m g.candidate e g.fails (subst (λ (d : Candidate). IsFirstBroken p m d e) one b)))
 
-  -- the same texts
-  same_answer : (s : Settings) (texts : List (List ℕ)) (h : ℕ) (at : Place) (way : Bool) (a : Answer) → Given s texts h at way → IsAnswer s texts a → a ≡ Failing h at way
-  same_answer s _ h at way _ g (refused text others e d) =
+  -- another answer of the same texts: the job is `replay`
+  same_answer : (s : Settings) (texts : List (List ℕ)) (h : ℕ) (at : Place) (way : Bool) (a : Answer) (kept : Option Kept) → Given s texts h at way → IsAnswer s texts a kept
+      → a ≡ Failing h at way
+  same_answer s _ h at way _ _ g (refused text others e d) =
       let first = first_text text g.text g.witness others g.texts_are in
       absurd (not_both s.bound s.full g.text g.program e g.accepted (subst (λ (t : List ℕ). IsRefused s.bound t e) first d))
-  same_answer s _ h at way a g (verified text p b j acc v) = absurd (not_one_text text g.text g.witness g.texts_are)
-  same_answer s _ h at way a g (replayed text witness p b j acc v) =
+  same_answer s _ h at way a kept g (verified text p l w b k j acc v) = absurd (not_one_text text g.text g.witness g.texts_are)
+  same_answer s _ h at way a _ g (replayed text witness p b j acc v) =
       let first = first_text text g.text g.witness (witness ∷ []) g.texts_are in
       let second = second_text text witness g.text g.witness g.texts_are in
       let program : p ≡ g.program = one_checked s.bound s.full g.text p g.program (subst (λ (t : List ℕ). IsAccepted s.bound s.full t p) first acc) g.accepted in
       same_replay s.bound s.full g.text s.model g.program g.witness h at way g.accepted g.shown b
       (subst (λ (w : List ℕ). IsReplay s.model g.program w b) second (subst (λ (q : Checked). IsReplay s.model q witness b) program v))
+  same_answer s _ h at way _ _ g (checked text l p a j acc v) = absurd (let no : job.Check ≡ job.Replay = sym j ∙ g.job_is in cc)
+  same_answer s _ h at way a kept g (migrated text old p name b k j acc v) = absurd (let no : job.Migrate name ≡ job.Replay = sym j ∙ g.job_is in cc)
+  same_answer s _ h at way _ _ g (made n j) = absurd (no_text g.text (g.witness ∷ []) g.texts_are)
+  same_answer s _ h at way _ _ g (made_and_verified n p a j acc v) = absurd (no_text g.text (g.witness ∷ []) g.texts_are)
+  same_answer s _ h at way _ _ g (made_and_refused n e j r) = absurd (no_text g.text (g.witness ∷ []) g.texts_are)
 
   pub failing_alone : FailingIsAlone
-  failing_alone s texts h at way a x y = same_answer s texts h at way a (given s texts h at way (Failing h at way) refl x) y
+  failing_alone s texts h at way a kept other x y = same_answer s texts h at way a other (given s texts h at way (Failing h at way) kept refl x) y

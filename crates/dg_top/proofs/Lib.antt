@@ -1,9 +1,9 @@
 mod Texts
-mod Words
 mod Answered
 mod Outcomes
 mod Files
-mod Verdicts
+pub mod Verdicts
 mod Alone
 mod Excludes
-mod Spellable
+mod Logs
+pub mod Spellable

@@ -1,11 +1,12 @@
 // Laws of answers.
 ghost use Rattle.std.specs.Prelude.{◌≢◌};
-ghost use Rattle.dg_top.specs.Laws.{FailingIsAlone, SafeExcludesUnsafe, UnsafeIsReplayed};
+ghost use Rattle.dg_top.specs.Laws.{AcceptedIsSafe, FailingIsAlone, MigratedIsSafe, SafeExcludesUnsafe, UnsafeIsReplayed};
 
 use crate::command::run;
 use c_program::{accepted_or_refused, names_are_plain, one_checked};
 use dg_base::{Gate, HonestDesk, Words};
 use exec_check::failing_executions_break_nothing;
+use program_log::accepted_is_safe as accepted_logs_are_safe;
 use std::alloc::Global;
 use std::thread::Threads;
 use witness_text::one_candidate;
@@ -34,6 +35,15 @@ pub fn safe_excludes_unsafe()
 pub fn unsafe_is_replayed()
     ensures { UnsafeIsReplayed }
 {}
+
+/// Where a log is answered with `ACCEPTED` or `MIGRATED`, no execution of the program fails.
+pub fn accepted_is_safe()
+    ensures accepted { AcceptedIsSafe }
+    ensures migrated { MigratedIsSafe }
+{
+    one_checked();
+    accepted_logs_are_safe();
+}
 
 /// A run over a desk whose outside never fails answers neither 5 nor 6.
 pub fn run_over_honest_desk<R: Threads + Sync, G: Gate + Sync>(

@@ -1,23 +1,16 @@
 // The text of why a candidate is no failing execution.
-ghost use Rattle.std.specs.Prelude.{◌≡◌, ◌++◌, OnOk, codes, decimal, map};
+ghost use Rattle.std.specs.Prelude.{◌≡◌, ◌++◌, OnOk, codes};
 ghost use Rattle.c_check.specs.PlainNames.{cell_names};
 ghost use Rattle.witness_text.specs.Witness.{event_text, events_text, name_at};
 ghost use Rattle.dg_top.specs.RejectText.{reject_text};
 
+use crate::text::put_numbered;
 use axiom_model::Event;
 use c_check::CellInfo;
 use dg_base::OutOfMemory;
 use exec_check::Reject;
-use line_text::{put, put_number};
+use line_text::put;
 use witness_text::{put_event, put_events};
-
-// Appends the words and the number.
-fn put_numbered(out: &mut Vec<u8>, name: &[u8], number: u32) -> Result<(), OutOfMemory>
-    ensures { OnOk result (out.new.items ≡ out.old.items ++ (name.now ++ decimal number)) }
-{
-    put(out, name)?;
-    put_number(out, number)
-}
 
 fn put_at(out: &mut Vec<u8>, name: &[u8], event: Event) -> Result<(), OutOfMemory>
     ensures { OnOk result (out.new.items ≡ out.old.items ++ (name.now ++ event_text event)) }

@@ -1,15 +1,15 @@
 // The job `replay`: whether a witness is a failing execution of a program.
-ghost use Rattle.std.specs.Prelude.{◌≡◌, ◌≢◌, ◌↔◌, ◌≤◌, ◌∷◌, [], IfOk, IsTrue};
+ghost use Rattle.std.specs.Prelude.{◌≡◌, ◌≢◌, ◌↔◌, ◌≤◌, ◌∷◌, [], None, IfOk, IsTrue};
 ghost use Rattle.c_check.specs.WellFormed.{IsChecked};
 ghost use Rattle.c_check.specs.PlainNames.{HasPlainNames, cell_names};
 ghost use Rattle.witness_text.specs.Spelling.{Spells};
-ghost use Rattle.dg_top.specs.declared.settings.Job.TheVariants.{Replay};
-ghost use Rattle.dg_top.specs.Answers.{IsAnswer, IsReplay, Rejected};
+ghost use Rattle.word_settings.specs.declared.settings.Job.TheVariants.{Replay};
+ghost use Rattle.dg_top.specs.Answers.{IsAnswer, Rejected};
 ghost use Rattle.dg_top.specs.Replies as replies;
-ghost use Rattle.dg_top.specs.Replies.{IsOneOf};
+ghost use Rattle.dg_top.specs.Replies.{IsOneOf, OfWitness};
 
-use crate::reply::{Reply, bad_witness, failing_at, refuse, rejected};
-use crate::settings::Settings;
+use crate::reply::{Reply, refuse};
+use crate::witness_reply::{bad_witness, failing_at, rejected};
 use axiom_model::{Candidate, MemoryModel};
 use c_check::Checked;
 use c_program::{names_are_plain, read_program};
@@ -17,6 +17,7 @@ use dg_base::OutOfMemory;
 use exec_check::{Reject, check_execution};
 use std::alloc::Global;
 use witness_text::{WitnessFault, read_witness};
+use word_settings::Settings;
 
 // Whether the candidate is not refused, but memory is out.
 fn lacks_memory(reject: &Reject) -> bool
@@ -30,7 +31,7 @@ fn lacks_memory(reject: &Reject) -> bool
 
 // The candidate is no failing execution, unless memory is out.
 fn reject(alloc: Global, checked: &Checked, reject: &Reject) -> Result<Reply, OutOfMemory>
-    ensures { IfOk result (λ r. replies.Spells (Rejected checked.now reject.now) r × (reject.now ≢ Reject.OutOfMemory)) }
+    ensures { IfOk result (λ r. replies.Spells (Rejected checked.now reject.now) None r × (reject.now ≢ Reject.OutOfMemory)) }
 {
     if lacks_memory(reject) {
         return Err(OutOfMemory);
@@ -48,7 +49,7 @@ fn replay_candidate(
 ) -> Result<Reply, OutOfMemory>
     requires checked { IsChecked checked.now }
     requires spelled { Spells checked.now.functions (cell_names checked.now.cells) candidate.now witness.now }
-    ensures { IfOk result (IsOneOf (IsReplay model checked.now witness.now)) }
+    ensures { IfOk result (IsOneOf (OfWitness model checked.now witness.now)) }
 {
     let _witness = witness;
     match check_execution(alloc, checked, model, candidate) {
@@ -66,7 +67,7 @@ fn replay_witness(
 ) -> Result<Reply, OutOfMemory>
     requires checked { IsChecked checked.now }
     requires names { HasPlainNames checked.now.functions (cell_names checked.now.cells) }
-    ensures { IfOk result (IsOneOf (IsReplay model checked.now witness.now)) }
+    ensures { IfOk result (IsOneOf (OfWitness model checked.now witness.now)) }
 {
     match read_witness(alloc, checked, witness) {
         Ok(candidate) => replay_candidate(alloc, model, checked, witness, &candidate),

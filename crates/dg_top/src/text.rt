@@ -1,4 +1,4 @@
-// The parts of texts: places, the line on a failing thread, the lines on workers.
+// The parts of texts: numbers, places, the line on a failing thread, the lines on workers.
 ghost use Rattle.std.specs.Prelude.{◌≡◌, ◌++◌, OnOk, codes, decimal, flat_map};
 ghost use Rattle.line_text.specs.Words.{shown};
 ghost use Rattle.dg_top.specs.Answers.{bound_text, failing_line, report_line};
@@ -7,6 +7,14 @@ ghost use Rattle.dg_top.specs.RefusalText.{place_text};
 use dg_base::{OutOfMemory, Place};
 use line_text::{put, put_number};
 use verdict_run::Report;
+
+/// Appends the words and the number.
+pub fn put_numbered(out: &mut Vec<u8>, words: &[u8], number: u32) -> Result<(), OutOfMemory>
+    ensures { OnOk result (out.new.items ≡ out.old.items ++ (words.now ++ decimal number)) }
+{
+    put(out, words)?;
+    put_number(out, number)
+}
 
 /// Appends `L:C`.
 pub fn put_place(out: &mut Vec<u8>, place: Place) -> Result<(), OutOfMemory>

@@ -1,5 +1,5 @@
 -- What each verdict on a program says.
-use Rattle.std.specs.Prelude.{◌≡◌, ◌≤◌, List}
+use Rattle.std.specs.Prelude.{◌≡◌, ◌≤◌, ℕ, Bool, true, false, List, Option, Some, None}
 use Rattle.axiom_model.specs.declared.Candidate.{Candidate}
 use Rattle.axiom_model.specs.declared.MemoryModel.{MemoryModel}
 use Rattle.axiom_model.specs.Failing.{FailsFirst}
@@ -8,6 +8,8 @@ use Rattle.run_model.specs.Threads.{ProgramFails}
 use Rattle.lemma_log.specs.declared.Entry.{Entry}
 use Rattle.encode_match.specs.declared.Encoded.{Encoded}
 use Rattle.encode_match.specs.Encoding.{IsEncoding}
+use Rattle.log_checker.specs.Goodness.{EndsEmpty}
+use Rattle.program_log.specs.Logs.{IsChainOf, IsHintedText}
 use Rattle.verdict_run.specs.declared.decision.Report.{Report}
 use Rattle.verdict_run.specs.Decisions.{IsGood, IsUnknown}
 use Rattle.program_verdict.specs.declared.Effort.{Effort}
@@ -34,12 +36,26 @@ pub record IsUndecided (p : Checked) (m : MemoryModel) (e : Effort) (reports : L
   pub encoded : Encoded
   pub encoding : IsEncoding p encoded
   pub same_model : encoded.model ≡ m
+  pub chain : IsChainOf p m encoded
   pub log : List Entry
   pub good : IsGood encoded.problem log
   pub unknown : IsUnknown encoded.problem e.workers e.budget log reports
 
--- what each verdict says of a program under a model
-abbrev pub IsVerdictOf : Checked → MemoryModel → Effort → ProgramVerdict → Type 0
-IsVerdictOf p m e Safe = (c : Candidate) → ¬ ProgramFails p m c
-IsVerdictOf p m e (Unsafe f) = IsFailure p m f
-IsVerdictOf p m e (Unknown reports) = IsUndecided p m e reports
+-- the text is, with hints, that of a good log of the program's problem which ends in the empty clause
+pub record IsKeptProof (p : Checked) (m : MemoryModel) (text : List ℕ) : Type 0 where
+  pub encoded : Encoded
+  pub chain : IsChainOf p m encoded
+  pub log : List Entry
+  pub kept : IsHintedText p encoded log text
+  pub empty : EndsEmpty log
+
+-- there is a text exactly where one is wanted, and it is such a one
+abbrev pub IsWhereWanted : Bool → (List ℕ → Type 0) → Option (List ℕ) → Type 0
+IsWhereWanted wanted P None = wanted ≡ false
+IsWhereWanted wanted P (Some text) = (wanted ≡ true) × P text
+
+-- what each verdict says of a program under a model, and of the text of its log, where that is wanted
+abbrev pub IsVerdictOf : Checked → MemoryModel → Effort → Bool → ProgramVerdict → Type 0
+IsVerdictOf p m e wanted (Safe log) = ((c : Candidate) → ¬ ProgramFails p m c) × IsWhereWanted wanted (IsKeptProof p m) log
+IsVerdictOf p m e wanted (Unsafe f) = IsFailure p m f
+IsVerdictOf p m e wanted (Unknown reports log) = (u : IsUndecided p m e reports) × IsWhereWanted wanted (IsHintedText p u.encoded u.log) log

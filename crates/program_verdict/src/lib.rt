@@ -7,17 +7,19 @@
 #![tactic(auto)]
 
 mod failing;
+mod keeping;
 
 ghost use Rattle.std.specs.Prelude.{IfOk};
 ghost use Rattle.c_check.specs.WellFormed.{IsChecked};
 ghost use Rattle.program_verdict.specs.Verdicts.{IsAffordable, IsVerdictOf};
 
 use crate::failing::failure_of;
+use crate::keeping::wanted_text;
 use axiom_model::{Candidate, MemoryModel};
 use c_check::Checked;
 use cnf_problem::refuted_has_no_assignment;
 use decode::decode;
-use dg_base::{Gate, List, OutOfMemory, Place};
+use dg_base::{Bytes, Gate, List, OutOfMemory, Place};
 use encode::encode;
 use encode_match::encodings_decide;
 use std::alloc::Global;
@@ -52,15 +54,17 @@ pub struct Failure {
 /// What is decided of a program.
 #[derive(Drop)]
 pub enum ProgramVerdict {
-    /// No execution that the model allows fails.
-    Safe,
+    /// No execution that the model allows fails; with the text of a log that shows it, where that is wanted.
+    Safe(Option<Bytes>),
     /// This one fails.
     Unsafe(Failure),
-    /// Every worker has spent its budget, and no verdict stands: the numbers of each worker.
-    Unknown(List<Report>),
+    /// Every worker has spent its budget, and no verdict stands: the numbers of each worker, and where it is wanted the text of
+    /// the log of all.
+    Unknown(List<Report>, Option<Bytes>),
 }
 
-/// Decides a program under a memory model.
+/// Decides a program under a memory model. Where a log is wanted, a verdict without an execution comes with its text, in the format
+/// with hints.
 ///
 /// # Errors
 /// Want of memory, to which belongs that there are more variables, clauses or events than numbers for them. It is free: no clause says
@@ -71,11 +75,12 @@ pub fn decide_program<R: Threads + Sync, G: Gate + Sync>(
     checked: &Checked,
     model: MemoryModel,
     effort: &Effort,
+    wants_log: bool,
     gate: &G,
 ) -> Result<ProgramVerdict, OutOfMemory>
     requires checked { IsChecked checked.now }
     requires effort { IsAffordable effort.now }
-    ensures { IfOk result (IsVerdictOf checked.now model effort.now) }
+    ensures { IfOk result (IsVerdictOf checked.now model effort.now wants_log) }
 {
     let encoded = encode(alloc, checked, model)?;
     let problem = &encoded.problem;
@@ -85,16 +90,20 @@ pub fn decide_program<R: Threads + Sync, G: Gate + Sync>(
         share_words,
     } = *effort;
     match decide(rt, alloc, problem, workers, budget, share_words, gate)? {
-        Decision::Safe(_) => {
+        Decision::Safe(log) => {
             refuted_has_no_assignment();
             encodings_decide();
-            Ok(ProgramVerdict::Safe)
+            let text = wanted_text(alloc, checked, &encoded, &log, wants_log)?;
+            Ok(ProgramVerdict::Safe(text))
         }
         Decision::Unsafe(assignment) => {
             let candidate = decode(alloc, checked, &encoded, &assignment)?;
             let failure = failure_of(alloc, checked, model, candidate)?;
             Ok(ProgramVerdict::Unsafe(failure))
         }
-        Decision::Unknown(_, reports) => Ok(ProgramVerdict::Unknown(reports)),
+        Decision::Unknown(log, reports) => {
+            let text = wanted_text(alloc, checked, &encoded, &log, wants_log)?;
+            Ok(ProgramVerdict::Unknown(reports, text))
+        }
     }
 }

@@ -1,5 +1,5 @@
 // Desks whose calls fail, one that never fails, and files that are too long.
-use crate::calls::{call, desk_with};
+use crate::calls::{call, desk_with, leaves};
 use crate::verify::{row_1, row_1_answer};
 use dg_base::{HonestDesk, MemDesk, OpenGate, Words};
 use dg_top::run_over_honest_desk;
@@ -24,7 +24,7 @@ fn failing_calls() -> &'static [(&'static str, u32, u8)] {
 fn whole_answer(line: &str) -> &'static str {
     match line {
         "deagle verify row1.c" => row_1_answer(),
-        "deagle verify" => "words Form\n",
+        "deagle verify" => "words Files\n",
         _ => "refused W1 WitnessText 1\n",
     }
 }
@@ -47,6 +47,46 @@ fn each_call_of_the_desk_fails_in_turn(rt: HostRuntime) -> Result<(), Fail> {
     Ok(())
 }
 
+// Words, the desk's call that fails, the status, how many bytes are printed, and whether the file `l` is kept.
+fn failing_keeps() -> &'static [(&'static str, u32, u8, usize, bool)] {
+    &[
+        ("deagle verify same.c --log l", 1, 5, 0, false),
+        ("deagle verify same.c --log l", 2, 6, 0, false),
+        ("deagle verify same.c --log l", 3, 6, 2, true),
+        ("deagle verify same.c --log l", 4, 0, 5, true),
+        ("deagle verify row1.c --witness l", 1, 5, 0, false),
+        ("deagle verify row1.c --witness l", 2, 6, 0, false),
+        ("deagle verify row1.c --witness l", 4, 1, 143, true),
+        ("deagle verify row1.c --log l", 2, 6, 71, false),
+        ("deagle check same.c log", 1, 5, 0, false),
+        ("deagle check same.c log", 2, 5, 0, false),
+        ("deagle check same.c log", 3, 6, 5, false),
+        ("deagle migrate same.c log l", 1, 5, 0, false),
+        ("deagle migrate same.c log l", 2, 5, 0, false),
+        ("deagle migrate same.c log l", 3, 6, 0, false),
+        ("deagle migrate same.c log l", 4, 6, 5, true),
+        ("deagle make 1", 1, 6, 158, false),
+        ("deagle make 1 --run", 1, 6, 11, false),
+    ]
+}
+
+#[test]
+fn each_keep_fails_in_turn(rt: HostRuntime) -> Result<(), Fail> {
+    let alloc = rt.alloc();
+    let files = [("same.c", crate::verify::same())];
+    let log = leaves(&rt, &files, "deagle verify same.c --log l", "l")?.kept;
+    for (line, failing, status, printed, kept) in failing_keeps() {
+        let mut desk = desk_with(alloc, "same.c", crate::verify::same())?;
+        desk.put("row1.c", row_1().as_bytes())?;
+        desk.put("log", log.as_bytes())?;
+        desk.fail_at(*failing)?;
+        assert_eq!(rt; call(&rt, &mut desk, line)?, *status);
+        assert_eq!(rt; desk.printed().len(), *printed);
+        assert_eq!(rt; desk.file("l").is_some(), *kept);
+    }
+    Ok(())
+}
+
 // What the honest desk prints for this line, with the status.
 fn honest() -> &'static [(&'static str, u8, &'static str)] {
     &[
@@ -57,7 +97,7 @@ fn honest() -> &'static [(&'static str, u8, &'static str)] {
             4,
             "refused W1 WitnessText 1\n",
         ),
-        ("deagle", 3, "words Form\n"),
+        ("deagle", 3, "words MissingRequiredArgument\n"),
     ]
 }
 

@@ -9,6 +9,10 @@ mod calls;
 #[cfg(test)]
 mod desks;
 #[cfg(test)]
+mod jobs;
+#[cfg(test)]
+mod logs;
+#[cfg(test)]
 mod models;
 #[cfg(test)]
 mod programs;

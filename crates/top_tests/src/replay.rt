@@ -85,7 +85,7 @@ pub(crate) fn replayed<R: Threads + Sync + AllocGlobal>(
 }
 
 // The text with its first such part replaced.
-fn changed(alloc: Global, text: &str, old: &str, new: &str) -> Result<String, Fail> {
+pub(crate) fn changed(alloc: Global, text: &str, old: &str, new: &str) -> Result<String, Fail> {
     let mut made = String::new(alloc);
     if let Some((before, behind)) = text.split_once(old) {
         made.push_str(before)?;

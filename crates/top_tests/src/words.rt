@@ -1,49 +1,62 @@
 // Words of the command line: which are those of a job, and what its options are.
-use crate::calls::{call, desk_with};
+use crate::calls::{call, desk_with, text};
 use crate::verify::{row_1, same};
 use std::test::Fail;
 
-// Lines that are not the words of a job.
-fn bad_lines() -> &'static [&'static str] {
+// Lines that ask for nothing, and why.
+fn bad_lines() -> &'static [(&'static str, &'static str)] {
     &[
-        "deagle",
-        "deagle verify",
-        "deagle check row1.c",
-        "deagle verify row1.c row1.c",
-        "deagle verify --model sc",
-        "deagle replay row1.c",
-        "deagle verify row1.c --model",
-        "deagle verify row1.c --model arm",
-        "deagle verify row1.c --unroll 0",
-        "deagle verify row1.c --unroll 65",
-        "deagle verify row1.c --unroll 02",
-        "deagle verify row1.c --model sc --model sc",
-        "deagle verify row1.c --full --full",
-        "deagle verify row1.c --full --model sc --full",
-        "deagle verify row1.c --model --full",
-        "deagle verify row1.c --unroll --full",
-        "deagle verify row1.c --full --unroll",
-        "deagle verify row1.c --full 1",
-        "deagle verify --full row1.c",
-        "deagle replay row1.c --full",
-        "deagle verify row1.c --workers 0",
-        "deagle verify row1.c --workers 17",
-        "deagle verify row1.c --workers 04",
-        "deagle verify row1.c --budget 0",
-        "deagle verify row1.c --budget 1000001",
-        "deagle verify row1.c --share 1048577",
-        "deagle verify row1.c --share -1",
-        "deagle verify row1.c --workers 2 --workers 2",
-        "deagle verify row1.c --budget",
+        ("deagle", "MissingRequiredArgument"),
+        ("deagle prove row1.c", "InvalidValue"),
+        ("deagle verify", "Files"),
+        ("deagle check row1.c", "Files"),
+        ("deagle migrate row1.c l", "Files"),
+        ("deagle verify row1.c row1.c", "Files"),
+        ("deagle verify --model sc", "Files"),
+        ("deagle replay row1.c", "Files"),
+        ("deagle replay row1.c --full", "Files"),
+        ("deagle verify row1.c --full 1", "Files"),
+        ("deagle verify row1.c --model", "InvalidValue"),
+        ("deagle verify row1.c --model arm", "InvalidValue"),
+        ("deagle verify row1.c --model --full", "InvalidValue"),
+        ("deagle verify row1.c --unroll --full", "InvalidValue"),
+        ("deagle verify row1.c --full --unroll", "InvalidValue"),
+        ("deagle verify row1.c --budget", "InvalidValue"),
+        ("deagle verify row1.c --unroll 0", "ValueValidation"),
+        ("deagle verify row1.c --unroll 65", "ValueValidation"),
+        ("deagle verify row1.c --workers 0", "ValueValidation"),
+        ("deagle verify row1.c --workers 17", "ValueValidation"),
+        ("deagle verify row1.c --budget 0", "ValueValidation"),
+        ("deagle verify row1.c --budget 1000001", "ValueValidation"),
+        ("deagle verify row1.c --share 1048577", "ValueValidation"),
+        (
+            "deagle verify row1.c --model sc --model sc",
+            "ArgumentConflict",
+        ),
+        ("deagle verify row1.c --full --full", "ArgumentConflict"),
+        (
+            "deagle verify row1.c --full --model sc --full",
+            "ArgumentConflict",
+        ),
+        (
+            "deagle verify row1.c --workers 2 --workers 2",
+            "ArgumentConflict",
+        ),
+        ("deagle verify row1.c --fast", "UnknownArgument"),
+        ("deagle make 1 --log l", "Unused"),
+        ("deagle check row1.c l --witness w", "Unused"),
+        ("deagle verify row1.c --run", "Unused"),
+        ("deagle make 17", "Number"),
+        ("deagle make 01", "Number"),
     ]
 }
 
 #[test]
 fn rows_on_words(rt: HostRuntime) -> Result<(), Fail> {
-    for line in bad_lines() {
+    for (line, why) in bad_lines() {
         let mut desk = desk_with(rt.alloc(), "row1.c", row_1())?;
         assert_eq!(rt; call(&rt, &mut desk, line)?, 3);
-        assert!(rt; desk.printed() == b"words Form\n".as_slice());
+        assert!(rt; desk.printed() == text(rt.alloc(), &["words ", why, "\n"])?.as_slice());
     }
     Ok(())
 }
@@ -61,6 +74,7 @@ fn with_options() -> &'static [&'static str] {
         "deagle verify same.c --unroll 1 --full --model tso",
         "deagle verify same.c --workers 1 --budget 1000000 --share 1048576",
         "deagle verify same.c --share 0 --workers 16 --full",
+        "deagle --full --model=tso verify --unroll 02 -- same.c",
     ]
 }
 

@@ -1,5 +1,6 @@
-use Rattle.dg_top.specs.Answers.{IsVerdict, Unsafe, unsafe}
-use Rattle.dg_top.specs.Replies.{IsOneOf, IsUnsafe}
+use Rattle.program_verdict.specs.declared.Failure.{Failure}
+use Rattle.dg_top.specs.Answers.{Unsafe, unsafe}
+use Rattle.dg_top.specs.Replies.{IsFailureReply, IsOneOf, IsUnsafe}
 use Rattle.dg_top.proofs.Texts.{if_ok}
 use Rattle.dg_top.proofs.Spellable.{spellable}
 use Rattle.dg_top.proofs.Verdicts.{reordered_fails, reordered_first}
@@ -11,10 +12,13 @@ returns c =
     let p = c.args.checked.now in
     let f = c.args.failure in
     let d = c.in_ok-candidate.candidate in
+    let same : Failure = record f { candidate = d } in
     let fails = reordered_fails p m f.candidate d c.in_ok-candidate.ensures.reordered c.requires.failure.fails in
-    if_ok c.unsafe_at.result (IsUnsafe p d f.handle f.place f.bound) (IsOneOf (IsVerdict m c.args.effort.now p)) (λ r told. record {
+    let first = reordered_first p m f.candidate d c.in_ok-candidate.ensures.reordered c.requires.failure.fails fails f.handle f.place f.bound c.requires.failure.first in
+    if_ok c.unsafe_at.result (IsUnsafe p same c.args.witness.now) (IsOneOf (IsFailureReply m p c.args.witness.now)) (λ r told. record {
       answer = Unsafe told.witness f.handle f.place f.bound;
-      allowed = unsafe d told.witness f.handle f.place f.bound told.spells fails (reordered_first p m f.candidate d c.in_ok-candidate.ensures.reordered c.requires.failure.fails fails f.handle f.place f.bound c.requires.failure.first);
+      kept = told.kept;
+      allowed = λ effort log. unsafe d told.witness f.handle f.place f.bound told.kept told.spells fails first told.keeps;
       spelled = told.spelled;
     }) c.unsafe_at.ensures
 
@@ -24,4 +28,4 @@ unsafe_at-requires c =
     let p = c.args.checked.now in
     let d = c.in_ok-candidate.candidate in
     let fails = reordered_fails p m c.args.failure.candidate d c.in_ok-candidate.ensures.reordered c.requires.failure.fails in
-    spellable c.runs_are_short.ensures.of_candidates p m d c.requires.checked fails.allowed c.in_ok-candidate.ensures.sorted
+    spellable p m d fails.allowed c.runs_are_short.ensures.of_candidates c.requires.checked c.in_ok-candidate.ensures.sorted
