@@ -1,0 +1,4 @@
+pub mod Adding
+pub mod SectionRuns
+pub mod CallRuns
+pub mod ProgramCalls
