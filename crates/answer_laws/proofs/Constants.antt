@@ -63,7 +63,7 @@ number_low c n e = by (ends_in_u c) e
     by true f = plain_low true (take (length c - 1) c) n f
     by false f = plain_low false c n f
 
-value_low : (c : List ℕ) → IsWord (value_in c)
+pub value_low : (c : List ℕ) → IsWord (value_in c)
 value_low c = by (number_value c) refl
   where
     by : (o : Option ℕ) → number_value c ≡ o → IsWord (unwrap_or o 0)

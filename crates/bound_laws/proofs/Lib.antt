@@ -1,0 +1,2 @@
+mod Initials
+mod Covered
