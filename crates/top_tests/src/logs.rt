@@ -1,5 +1,6 @@
 // Logs and witnesses that `verify` keeps, and what `check` and `migrate` say of logs.
 use crate::calls::{Left, leaves};
+use crate::programs::counting_by_six;
 use crate::relaxed::{four_copies, store_buffering_answer};
 use crate::replay::{changed, store_buffering};
 use crate::verify::row_1;
@@ -158,6 +159,29 @@ fn a_text_that_goes_wrong_is_told(rt: HostRuntime) -> Result<(), Fail> {
     };
     let line: usize = number.trim_end().parse()?;
     assert_eq!(rt; line, log.lines().count());
+    Ok(())
+}
+
+// What `check` prints of the large program and a log of it.
+fn checked_at_length<R: Threads + Sync + AllocGlobal>(rt: &R, log: &str) -> Result<String, Fail> {
+    let files = [("p.c", counting_by_six()), ("l", log)];
+    Ok(leaves(rt, &files, "deagle check p.c l --unroll 6", "")?.printed)
+}
+
+// Logs that are longer than a piece in which they are read, with hints and without; and what goes wrong at their end.
+#[test]
+fn long_logs_are_checked(rt: HostRuntime) -> Result<(), Fail> {
+    let line = "deagle verify p.c --unroll 6 --workers 1 --log l";
+    let Left { kept, .. } = leaves(&rt, &[("p.c", counting_by_six())], line, "l")?;
+    let without = plain(rt.alloc(), kept.as_str())?;
+    assert!(rt; 131072 < without.len());
+    for log in [kept.as_str(), without.as_str()] {
+        let told = checked_at_length(&rt, log)?;
+        assert!(rt; tells_entries(told.as_str(), "ACCEPTED ", log)?);
+        let cut = changed(rt.alloc(), log, "\nend\n", "\nend\n\n")?;
+        let told = checked_at_length(&rt, cut.as_str())?;
+        assert!(rt; told.starts_with("refused G1 LogText "));
+    }
     Ok(())
 }
 

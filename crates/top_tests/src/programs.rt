@@ -88,6 +88,19 @@ int main() {
 "
 }
 
+// Six threads count under a mutex; it wants six turns of a loop.
+pub(crate) fn counting_by_six() -> &'static str {
+    "int x; pthread_mutex_t m;
+void *f(void *p) { pthread_mutex_lock(&m); x = x + 1; pthread_mutex_unlock(&m); return 0; }
+int main() {
+  pthread_t t[6];
+  for (int i = 0; i < 6; i++) pthread_create(&t[i], 0, f, 0);
+  for (int i = 0; i < 6; i++) pthread_join(t[i], 0);
+  assert(x == 6);
+  return 0; }
+"
+}
+
 // The program's own `assert` and `reach_error`.
 pub(crate) fn own_assertions() -> &'static str {
     "void assert(int e) { if (!e) reach_error(); }
