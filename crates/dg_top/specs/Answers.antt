@@ -155,7 +155,7 @@ bound_text false = []
 abbrev pub failing_line : List ℕ → ℕ → Place → Bool → List ℕ
 failing_line word handle at bound = word ++ bound_text bound ++ codes " thread " ++ decimal handle ++ codes " at " ++ place_text at ++ line_feed
 
--- `worker I entries N read R0 R1 ..`
+-- `worker I entries N read COUNT COUNT ..`
 abbrev pub report_line : Report → List ℕ
 report_line r = codes "worker " ++ decimal r.worker ++ codes " entries " ++ decimal r.entries ++ codes " read" ++ shown decimal r.reads ++ line_feed
 

@@ -61,7 +61,7 @@ fn put_reads(out: &mut Vec<u8>, reads: &[u32]) -> Result<(), OutOfMemory>
     Ok(())
 }
 
-// Appends `worker I entries N read R0 R1 ..` as a line.
+// Appends `worker I entries N read COUNT COUNT ..` as a line.
 fn put_report(out: &mut Vec<u8>, report: &Report) -> Result<(), OutOfMemory>
     ensures { OnOk result (out.new.items ≡ out.old.items ++ report_line report.now) }
 {
